@@ -1,0 +1,33 @@
+use mathlib.Core.Path.{_∙_}
+use Rattle.cipher.proofs.Columns.{same-four, mix-law}
+use borrow.Author.Needs.{needs}
+use Rattle.cipher.proofs.rounds.mix_columns.Statement.{statement}
+use Rattle.cipher.proofs.rounds.mix_columns.Tie as tie
+
+mix-column-requires : tie.Need-mix-column-requires
+mix-column-requires c κs = search needs
+
+mix-column-requires-2 : tie.Need-mix-column-requires-2
+mix-column-requires-2 c κs = search needs
+
+mix-column-requires-3 : tie.Need-mix-column-requires-3
+mix-column-requires-3 c κs = search needs
+
+mix-column-requires-4 : tie.Need-mix-column-requires-4
+mix-column-requires-4 c κs = search needs
+
+returns : tie.Need-returns
+returns c =
+    let s = c .before .before .before .before .args .s in
+    same-four (c .before .before .before .mix-column .ensures) (c .before .before .mix-column2 .ensures) (c .before .mix-column3 .ensures) (c .mix-column4 .ensures)
+    ∙ mix-law (s .0) (s .1) (s .2) (s .3)
+
+pub mix-columns-spec : {M : Type 1} → statement M
+mix-columns-spec =
+    tie.close
+    (tie.spec
+    mix-column-requires
+    mix-column-requires-2
+    mix-column-requires-3
+    mix-column-requires-4
+    returns)

@@ -1,0 +1,3 @@
+pub mod Columns
+pub mod State
+pub mod Cipher

@@ -1,0 +1,4 @@
+pub mod Xor
+pub mod Tests
+pub mod Fill
+pub mod Words

@@ -1,0 +1,108 @@
+-- Demand 1: every public call asks nothing of its caller, and any two outcomes that its contract allows agree.
+-- No call below is lent memory to write, so none has anything to keep. Assumes nothing.
+use mathlib.Core.Path.{_≡_, sym, _∙_}
+use Rattle.field.proofs.double.Reads as double
+use Rattle.field.proofs.product.Reads as product
+use Rattle.sbox.proofs.table.Reads as table
+use Rattle.sbox.proofs.inv_table.Reads as inv-table
+use Rattle.words.proofs.join.Reads as join
+use Rattle.words.proofs.rot_word.Reads as rot-word
+use Rattle.words.proofs.substitute.Reads as substitute
+use Rattle.words.proofs.mix_column.Reads as mix-column
+use Rattle.words.proofs.inv_mix_column.Reads as inv-mix-column
+use Rattle.schedule.proofs.KeySchedule.new.Reads as new
+use Rattle.schedule.proofs.KeySchedule.with.Reads as with
+use Rattle.cipher.proofs.encrypt.Reads as encrypt
+use Rattle.cipher.proofs.decrypt.Reads as decrypt
+use Rattle.cipher.proofs.encrypt_block.Reads as encrypt-block
+use Rattle.cipher.proofs.decrypt_block.Reads as decrypt-block
+
+pub double-asks-nothing : (κs : _) (a : _) → double.Asked κs a
+double-asks-nothing κs a = tt
+
+pub double-determined : (κs : _) (a : _) (r r′ : _) (s s′ : _) → double.Post κs a r s → double.Post κs a r′ s′ → r ≡ r′
+double-determined κs a r r′ s s′ p q = p ∙ sym q
+
+pub product-asks-nothing : (κs : _) (a : _) → product.Asked κs a
+product-asks-nothing κs a = tt
+
+pub product-determined : (κs : _) (a : _) (r r′ : _) (s s′ : _) → product.Post κs a r s → product.Post κs a r′ s′ → r ≡ r′
+product-determined κs a r r′ s s′ p q = p ∙ sym q
+
+pub table-asks-nothing : (κs : _) (a : _) → table.Asked κs a
+table-asks-nothing κs a = tt
+
+pub table-determined : (κs : _) (a : _) (r r′ : _) (s s′ : _) → table.Post κs a r s → table.Post κs a r′ s′ → r ≡ r′
+table-determined κs a r r′ s s′ p q = p ∙ sym q
+
+pub inv-table-asks-nothing : (κs : _) (a : _) → inv-table.Asked κs a
+inv-table-asks-nothing κs a = tt
+
+pub inv-table-determined : (κs : _) (a : _) (r r′ : _) (s s′ : _) → inv-table.Post κs a r s → inv-table.Post κs a r′ s′ → r ≡ r′
+inv-table-determined κs a r r′ s s′ p q = p ∙ sym q
+
+pub join-asks-nothing : (κs : _) (a : _) → join.Asked κs a
+join-asks-nothing κs a = tt
+
+pub join-determined : (κs : _) (a : _) (r r′ : _) (s s′ : _) → join.Post κs a r s → join.Post κs a r′ s′ → r ≡ r′
+join-determined κs a r r′ s s′ p q = p ∙ sym q
+
+pub rot-word-asks-nothing : (κs : _) (a : _) → rot-word.Asked κs a
+rot-word-asks-nothing κs a = tt
+
+pub rot-word-determined : (κs : _) (a : _) (r r′ : _) (s s′ : _) → rot-word.Post κs a r s → rot-word.Post κs a r′ s′ → r ≡ r′
+rot-word-determined κs a r r′ s s′ p q = p ∙ sym q
+
+pub substitute-asks-nothing : (κs : _) (a : _) → substitute.Asked κs a
+substitute-asks-nothing κs a = tt
+
+pub substitute-determined : (κs : _) (a : _) (r r′ : _) (s s′ : _) → substitute.Post κs a r s → substitute.Post κs a r′ s′ → r ≡ r′
+substitute-determined κs a r r′ s s′ p q = p .whole ∙ sym (q .whole)
+
+pub mix-column-asks-nothing : (κs : _) (a : _) → mix-column.Asked κs a
+mix-column-asks-nothing κs a = tt
+
+pub mix-column-determined : (κs : _) (a : _) (r r′ : _) (s s′ : _) → mix-column.Post κs a r s → mix-column.Post κs a r′ s′ → r ≡ r′
+mix-column-determined κs a r r′ s s′ p q = p ∙ sym q
+
+pub inv-mix-column-asks-nothing : (κs : _) (a : _) → inv-mix-column.Asked κs a
+inv-mix-column-asks-nothing κs a = tt
+
+pub inv-mix-column-determined : (κs : _) (a : _) (r r′ : _) (s s′ : _) → inv-mix-column.Post κs a r s → inv-mix-column.Post κs a r′ s′ → r ≡ r′
+inv-mix-column-determined κs a r r′ s s′ p q = p ∙ sym q
+
+pub new-asks-nothing : (κs : _) (a : _) → new.Asked κs a
+new-asks-nothing κs a = tt
+
+pub new-determined : (κs : _) (a : _) (r r′ : _) (s s′ : _) → new.Post κs a r s → new.Post κs a r′ s′ → r ≡ r′
+new-determined κs a r r′ s s′ p q = p ∙ sym q
+
+pub with-asks-nothing : (κs : _) (a : _) → with.Asked κs a
+with-asks-nothing κs a = tt
+
+pub with-determined : (κs : _) (a : _) (r r′ : _) (s s′ : _) → with.Post κs a r s → with.Post κs a r′ s′ → r ≡ r′
+with-determined κs a r r′ s s′ p q = p ∙ sym q
+
+pub encrypt-asks-nothing : (κs : _) (a : _) → encrypt.Asked κs a
+encrypt-asks-nothing κs a = tt
+
+pub encrypt-determined : (κs : _) (a : _) (r r′ : _) (s s′ : _) → encrypt.Post κs a r s → encrypt.Post κs a r′ s′ → r ≡ r′
+encrypt-determined κs a r r′ s s′ p q = p ∙ sym q
+
+pub decrypt-asks-nothing : (κs : _) (a : _) → decrypt.Asked κs a
+decrypt-asks-nothing κs a = tt
+
+pub decrypt-determined : (κs : _) (a : _) (r r′ : _) (s s′ : _) → decrypt.Post κs a r s → decrypt.Post κs a r′ s′ → r ≡ r′
+decrypt-determined κs a r r′ s s′ p q = p ∙ sym q
+
+pub encrypt-block-asks-nothing : (κs : _) (a : _) → encrypt-block.Asked κs a
+encrypt-block-asks-nothing κs a = tt
+
+pub encrypt-block-determined : (κs : _) (a : _) (r r′ : _) (s s′ : _) → encrypt-block.Post κs a r s → encrypt-block.Post κs a r′ s′ → r ≡ r′
+encrypt-block-determined κs a r r′ s s′ p q = p ∙ sym q
+
+pub decrypt-block-asks-nothing : (κs : _) (a : _) → decrypt-block.Asked κs a
+decrypt-block-asks-nothing κs a = tt
+
+pub decrypt-block-determined : (κs : _) (a : _) (r r′ : _) (s s′ : _) → decrypt-block.Post κs a r s → decrypt-block.Post κs a r′ s′ → r ≡ r′
+decrypt-block-determined κs a r r′ s s′ p q = p ∙ sym q

@@ -1,0 +1,3 @@
+pub mod HandCases
+pub mod Calls
+pub mod Cipher

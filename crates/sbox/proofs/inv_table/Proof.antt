@@ -1,0 +1,11 @@
+use Rattle.sbox.proofs.Tables.{invSBoxTable}
+use Rattle.sbox.proofs.Laws.{invSBox-table}
+use Rattle.sbox.proofs.inv_table.Statement.{statement}
+use Rattle.sbox.proofs.inv_table.Tie as tie
+
+returns : tie.Need-returns
+unfolding invSBoxTable
+returns c = invSBox-table
+
+pub inv-table-spec : {M : Type 1} → statement M
+inv-table-spec = tie.close (tie.spec returns)

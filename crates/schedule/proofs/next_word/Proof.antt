@@ -1,0 +1,49 @@
+use borrow.Author.Tests.{lt-ltb, le-ltb}
+use Rattle.octets.specs.Octets.{xor}
+use Rattle.schedule.specs.Schedule.{nextWord}
+use borrow.Author.Needs.{needs}
+use Rattle.schedule.proofs.next_word.Statement.{statement}
+use Rattle.schedule.proofs.next_word.Tie as tie
+
+key-word-requires : tie.Need-key-word-requires
+key-word-requires c κs = search needs
+
+returns : tie.Need-returns
+unfolding nextWord
+returns c = simp (lt-ltb _ _ (c .before .if1 .taken)) (c .key-word .ensures)
+
+mul-result : tie.Need-mul-result
+mul-result c = search needs
+
+element-copy-out-result : tie.Need-element-copy-out-result
+element-copy-out-result c = search needs
+
+sub-added : tie.Need-sub-added
+sub-added c = search needs
+
+mul-added : tie.Need-mul-added
+mul-added c = search needs
+
+element-copy-out-added : tie.Need-element-copy-out-added
+element-copy-out-added c = search needs
+
+added-requires : tie.Need-added-requires
+added-requires c κs = search needs
+
+returns-2 : tie.Need-returns-2
+unfolding nextWord xor
+returns-2 c = simp (le-ltb _ _ (c .before .before .before .if1 .left)) (cc)
+
+pub next-word-spec : {M : Type 1} → statement M
+next-word-spec =
+    tie.close
+    (tie.spec
+    key-word-requires
+    returns
+    mul-result
+    element-copy-out-result
+    sub-added
+    mul-added
+    element-copy-out-added
+    added-requires
+    returns-2)

@@ -1,0 +1,150 @@
+// The key schedule of FIPS 197, 5.2: a key of 16, 24 or 32 bytes expanded into round keys.
+use field::double;
+use sbox::table;
+use words::join;
+use words::rot_word;
+use words::substitute;
+ghost use mathlib.Core.Path.{_≡_};
+ghost use Prim.Native.Nat.{_+_, _*_, _≤_, _<_};
+ghost use lib.ListN.{length};
+ghost use Rattle.octets.specs.Octets.{padTo};
+ghost use Rattle.field.specs.Field.{xPower};
+ghost use Rattle.sbox.specs.Sbox.{sBox, entry};
+ghost use Rattle.schedule.specs.Schedule.{rCon, temp, keyWord, nextWord, keyExpansion, taken, scheduleOf};
+
+// Whether the key was taken, or refused for its length.
+pub enum KeyAnswer {
+    Taken,
+    KeyLength,
+}
+
+// The words of the round keys, with zeros past the last, and the number of rounds: 10, 12 or 14, or 0 where no key made it.
+pub struct KeySchedule {
+    pub words: [u32; 60],
+    pub rounds: usize,
+}
+
+pub struct Expanded {
+    pub answer: KeyAnswer,
+    pub schedule: KeySchedule,
+}
+
+impl KeySchedule {
+    pub const WORDS_16: usize = 4;
+
+    pub const ROUNDS_16: usize = 10;
+
+    pub const WORDS_24: usize = 6;
+
+    pub const ROUNDS_24: usize = 12;
+
+    pub const WORDS_32: usize = 8;
+
+    pub const ROUNDS_32: usize = 14;
+
+    // The schedule of a key.
+    pub fn new(key: &[u8]) -> Expanded
+        ensures { λ r. ⌜ r ≡ scheduleOf sBox (now (key .entry)) ⌝ }
+    {
+        let sbox = table();
+        KeySchedule::with(&sbox, key)
+    }
+
+    // The same with the S-box lent, for callers that need it for more.
+    pub fn with(sbox: &[u8; 256], key: &[u8]) -> Expanded
+        ensures { λ r. ⌜ r ≡ scheduleOf (entry (now (sbox .entry))) (now (key .entry)) ⌝ }
+    {
+        if key.len() == 16 {
+            return made(sbox, key, KeySchedule::WORDS_16, KeySchedule::ROUNDS_16);
+        }
+        if key.len() == 24 {
+            return made(sbox, key, KeySchedule::WORDS_24, KeySchedule::ROUNDS_24);
+        }
+        if key.len() == 32 {
+            return made(sbox, key, KeySchedule::WORDS_32, KeySchedule::ROUNDS_32);
+        }
+        Expanded {
+            answer: KeyAnswer::KeyLength,
+            schedule: KeySchedule {
+                words: [0u32; 60],
+                rounds: 0,
+            },
+        }
+    }
+}
+
+// Of nk words of key, for nr rounds.
+fn made(sbox: &[u8; 256], key: &[u8], nk: usize, nr: usize) -> Expanded
+    requires { ⌜ (0 < nk) × ((nk * 4 ≤ length (now key)) × (nr < 15)) ⌝ }
+    ensures { λ r. ⌜ r ≡ taken (entry (now (sbox .entry))) (now (key .entry)) nk nr ⌝ }
+{
+    let words = expand(sbox, key, nk, nr);
+    Expanded {
+        answer: KeyAnswer::Taken,
+        schedule: KeySchedule { words, rounds: nr },
+    }
+}
+
+fn expand(sbox: &[u8; 256], key: &[u8], nk: usize, nr: usize) -> [u32; 60]
+    requires { ⌜ (0 < nk) × ((nk * 4 ≤ length (now key)) × (nr < 15)) ⌝ }
+    ensures { λ r. ⌜ r ≡ padTo 60 (keyExpansion (entry (now (sbox .entry))) (now (key .entry)) nk (4 * (nr + 1))) ⌝ }
+{
+    let mut words = [0u32; 60];
+    for i in 0..4 * (nr + 1) {
+        let w = next_word(sbox, key, nk, &words, i);
+        words[i] = w;
+    }
+    words
+}
+
+// Word i, of the key or of the words before it.
+fn next_word(sbox: &[u8; 256], key: &[u8], nk: usize, words: &[u32; 60], i: usize) -> u32
+    requires { ⌜ (0 < nk) × ((nk * 4 ≤ length (now key)) × (i < 60)) ⌝ }
+    ensures { λ r. ⌜ r ≡ nextWord (entry (now (sbox .entry))) (now (key .entry)) nk (now (words .entry)) i ⌝ }
+{
+    if i < nk {
+        return key_word(key, i);
+    }
+    words[i - nk] ^ added(sbox, nk, i, words[i - 1])
+}
+
+fn key_word(key: &[u8], i: usize) -> u32
+    requires { ⌜ i * 4 + 4 ≤ length (now key) ⌝ }
+    ensures { λ r. ⌜ r ≡ keyWord (now (key .entry)) i ⌝ }
+{
+    join(key[i * 4], key[i * 4 + 1], key[i * 4 + 2], key[i * 4 + 3])
+}
+
+// What word i adds to the word nk before it: the last word, by turns rotated, substituted, or as it is.
+fn added(sbox: &[u8; 256], nk: usize, i: usize, last: u32) -> u32
+    requires { ⌜ (0 < nk) × (nk ≤ i) ⌝ }
+    ensures { λ r. ⌜ r ≡ temp (entry (now (sbox .entry))) nk i last ⌝ }
+{
+    if i % nk == 0 {
+        let x = rot_word(last);
+        return substitute(sbox, x, x, x, x) ^ round_constant(i / nk);
+    }
+    if 6 < nk {
+        if i % nk == 4 {
+            return substitute(sbox, last, last, last, last);
+        }
+    }
+    last
+}
+
+fn round_constant(n: usize) -> u32
+    requires { ⌜ 0 < n ⌝ }
+    ensures { λ r. ⌜ r ≡ rCon n ⌝ }
+{
+    join(power_of_x(n - 1), 0, 0, 0)
+}
+
+fn power_of_x(n: usize) -> u8
+    ensures { λ r. ⌜ r ≡ xPower n ⌝ }
+{
+    let mut x: u8 = 1;
+    for i in 0..n {
+        x = double(x);
+    }
+    x
+}

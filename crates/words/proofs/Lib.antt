@@ -1,0 +1,2 @@
+pub mod Rotate
+pub mod Mix

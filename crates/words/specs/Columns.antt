@@ -1,0 +1,59 @@
+-- What is done to a word as a whole: rotation and substitution of FIPS 197, 5.2, and the mixing of one column, 5.1.3 and 5.3.3.
+-- Assumes nothing: these are definitions.
+use Prim.Native.Nat.{ℕ}
+use mathlib.Core.Path.{_≡_}
+use Rattle.octets.specs.Octets.{xor}
+use Rattle.octets.specs.Words.{word, byte}
+use Rattle.field.specs.Field.{xTimes, _•_}
+
+-- ROTWORD (5.10): [a0, a1, a2, a3] becomes [a1, a2, a3, a0]
+unfoldable pub rotWord : ℕ → ℕ
+rotWord x = word (byte 1 x) (byte 2 x) (byte 3 x) (byte 0 x)
+
+-- ROTWORD twice, and three times
+unfoldable pub rotTwo : ℕ → ℕ
+rotTwo x = word (byte 2 x) (byte 3 x) (byte 0 x) (byte 1 x)
+
+unfoldable pub rotThree : ℕ → ℕ
+rotThree x = word (byte 3 x) (byte 0 x) (byte 1 x) (byte 2 x)
+
+-- byte 0 of a, byte 1 of b, byte 2 of c and byte 3 of d, substituted
+unfoldable pub diagonal : (ℕ → ℕ) → ℕ → ℕ → ℕ → ℕ → ℕ
+diagonal sub a b c d = word (sub (byte 0 a)) (sub (byte 1 b)) (sub (byte 2 c)) (sub (byte 3 d))
+
+-- r is that word; its bytes follow where the substitution gives bytes, which of a table that is lent only its reader knows
+pub record IsDiagonal (sub : ℕ → ℕ) (a b c d r : ℕ) : Type 0 where
+  pub whole : r ≡ diagonal sub a b c d
+  pub first : byte 0 r ≡ sub (byte 0 a)
+  pub second : byte 1 r ≡ sub (byte 1 b)
+  pub third : byte 2 r ≡ sub (byte 2 c)
+  pub fourth : byte 3 r ≡ sub (byte 3 d)
+
+-- SUBWORD (5.11): each of the four bytes substituted
+abbrev pub subWord : (ℕ → ℕ) → ℕ → ℕ
+subWord sub x = diagonal sub x x x x
+
+-- the four bytes doubled
+unfoldable pub doubled : ℕ → ℕ
+doubled x = word (xTimes (byte 0 x)) (xTimes (byte 1 x)) (xTimes (byte 2 x)) (xTimes (byte 3 x))
+
+-- a row p q u v of a matrix times a column a b c d (4.3)
+unfoldable pub row : ℕ → ℕ → ℕ → ℕ → ℕ → ℕ → ℕ → ℕ → ℕ
+row p q u v a b c d = xor (xor (a • p) (b • q)) (xor (c • u) (d • v))
+
+-- the first row of MIXCOLUMNS' matrix (5.7), and of INVMIXCOLUMNS' (5.14); each next row is the one before turned right by one
+abbrev pub mixRow : ℕ → ℕ → ℕ → ℕ → ℕ
+mixRow = row 0x02 0x03 0x01 0x01
+
+abbrev pub invMixRow : ℕ → ℕ → ℕ → ℕ → ℕ
+invMixRow = row 0x0e 0x0b 0x0d 0x09
+
+-- the matrix with this first row times the column a b c d
+unfoldable pub column : (ℕ → ℕ → ℕ → ℕ → ℕ) → ℕ → ℕ → ℕ → ℕ → ℕ
+column first a b c d = word (first a b c d) (first b c d a) (first c d a b) (first d a b c)
+
+unfoldable pub mixColumn : ℕ → ℕ
+mixColumn x = column mixRow (byte 0 x) (byte 1 x) (byte 2 x) (byte 3 x)
+
+unfoldable pub invMixColumn : ℕ → ℕ
+invMixColumn x = column invMixRow (byte 0 x) (byte 1 x) (byte 2 x) (byte 3 x)

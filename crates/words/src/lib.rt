@@ -1,0 +1,84 @@
+// Words of four bytes in one u32, the first byte highest: made of bytes, rotated, substituted and mixed.
+ghost use mathlib.Core.Path.{_≡_};
+ghost use Prim.Native.Nat.{_<_};
+ghost use Rattle.octets.specs.Words.{word};
+ghost use Rattle.sbox.specs.Sbox.{entry};
+ghost use Rattle.words.specs.Columns.{rotWord, rotTwo, rotThree, IsDiagonal, doubled, mixColumn, invMixColumn};
+
+pub fn join(a: u8, b: u8, c: u8, d: u8) -> u32
+    ensures { λ r. ⌜ r ≡ word a b c d ⌝ }
+{
+    packed(wide(a), wide(b), wide(c), wide(d))
+}
+
+pub fn rot_word(x: u32) -> u32
+    ensures { λ r. ⌜ r ≡ rotWord x ⌝ }
+{
+    x / 16777216 + x % 16777216 * 256
+}
+
+// Byte 0 of a, byte 1 of b, byte 2 of c and byte 3 of d, each through the table.
+pub fn substitute(table: &[u8; 256], a: u32, b: u32, c: u32, d: u32) -> u32
+    ensures { λ r. ⌜ IsDiagonal (entry (now (table .entry))) a b c d r ⌝ }
+{
+    packed(
+        looked_up(table, a / 16777216 % 256),
+        looked_up(table, b / 65536 % 256),
+        looked_up(table, c / 256 % 256),
+        looked_up(table, d % 256),
+    )
+}
+
+// 2a + 3b + c + d at each byte is 2(a + b) + b + c + d, where b, c and d are the word rotated.
+pub fn mix_column(x: u32) -> u32
+    ensures { λ r. ⌜ r ≡ mixColumn x ⌝ }
+{
+    let y = rot_word(x);
+    (double_each(x ^ y) ^ y) ^ (rot_two(x) ^ rot_three(x))
+}
+
+// The inverse matrix is the matrix times one that adds to each byte four times its sum with the byte two below.
+pub fn inv_mix_column(x: u32) -> u32
+    ensures { λ r. ⌜ r ≡ invMixColumn x ⌝ }
+{
+    mix_column(x ^ double_each(double_each(x ^ rot_two(x))))
+}
+
+fn rot_two(x: u32) -> u32
+    ensures { λ r. ⌜ r ≡ rotTwo x ⌝ }
+{
+    x / 65536 + x % 65536 * 65536
+}
+
+fn rot_three(x: u32) -> u32
+    ensures { λ r. ⌜ r ≡ rotThree x ⌝ }
+{
+    x / 256 + x % 256 * 16777216
+}
+
+// Doubles the four bytes at once: the low seven bits of each shifted, and 1b for each top bit.
+fn double_each(x: u32) -> u32
+    ensures { λ r. ⌜ r ≡ doubled x ⌝ }
+{
+    ((x & 0x7f7f7f7f) * 2) ^ ((x / 128 & 0x01010101) * 27)
+}
+
+fn looked_up(table: &[u8; 256], x: u32) -> u32
+    requires { ⌜ x < 256 ⌝ }
+    ensures { λ r. ⌜ (r ≡ entry (now (table .entry)) x) × (r < 256) ⌝ }
+{
+    wide(table[x as usize])
+}
+
+fn packed(a: u32, b: u32, c: u32, d: u32) -> u32
+    requires { ⌜ (a < 256) × (b < 256) × (c < 256) × (d < 256) ⌝ }
+    ensures { λ r. ⌜ r ≡ word a b c d ⌝ }
+{
+    ((a * 256 + b) * 256 + c) * 256 + d
+}
+
+fn wide(x: u8) -> u32
+    ensures { λ r. ⌜ (r ≡ x) × (r < 256) ⌝ }
+{
+    x as u32
+}
