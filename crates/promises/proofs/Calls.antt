@@ -1,4 +1,4 @@
--- Demand 1: every public call asks nothing of its caller, and any two outcomes that its contract allows agree.
+-- Demand 1 for the cipher: every public call asks nothing of its caller, and any two outcomes that its contract allows agree.
 -- No call below is lent memory to write, so none has anything to keep. Assumes nothing.
 use mathlib.Core.Path.{_≡_, sym, _∙_}
 use Rattle.field.proofs.double.Reads as double

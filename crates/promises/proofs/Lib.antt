@@ -1,3 +1,4 @@
 pub mod HandCases
 pub mod Calls
 pub mod Cipher
+pub mod Text

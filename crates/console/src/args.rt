@@ -1,0 +1,177 @@
+// The words of a line after its first, judged by the form of its call and decoded into lent memory.
+// A form has a letter for each word and spaces after the last:
+//     .  the name of the call
+//     x  bytes
+//     1  one byte
+//     b  a block of 16 bytes
+//     n  a number of 32 bits
+//     w  a number of 64 bits
+//     o  what the output holds before the call
+use lines::Decoded;
+use lines::Number;
+ghost use Prim.Native.Nat.{_<_};
+ghost use Rattle.io.specs.Counts.{Counts};
+
+// Bytes go to the memory of inputs one after the other, those of word k from ends[k - 1] up to ends[k]. The bytes of an
+// output go to the front of its own memory, since a call writes there while it reads the inputs: numbers[k] counts them.
+pub struct Args {
+    pub ok: bool,
+    pub ends: [usize; 8],
+    pub numbers: [u64; 8],
+}
+
+// What one word gives.
+pub struct Taken {
+    pub ok: bool,
+    pub end: usize,
+    pub number: u64,
+}
+
+// The words of a line that has the form, or `ok` false.
+pub fn take(line: &[u8], form: &[u8; 8], ins: &mut [u8], outs: &mut [u8]) -> Args {
+    let mut a = Args {
+        ok: lines::count(line) == lines::find(form, 0, 32),
+        ends: [0usize; 8],
+        numbers: [0u64; 8],
+    };
+    let mut k: usize = 1;
+    while k < 8 {
+        let b = with_word(a, k, form[k], lines::word(line, k), ins, outs);
+        a = b;
+        k += 1;
+    }
+    a
+}
+
+fn with_word(a: Args, k: usize, kind: u8, word: &[u8], ins: &mut [u8], outs: &mut [u8]) -> Args
+    requires { ⌜ (0 < k) × (k < 8) ⌝ }
+{
+    let mut ends = a.ends;
+    let mut numbers = a.numbers;
+    if !a.ok {
+        return a;
+    }
+    if kind == 32 {
+        return a;
+    }
+    let t = read_word(kind, word, ins, outs, ends[k - 1]);
+    ends[k] = t.end;
+    numbers[k] = t.number;
+    Args {
+        ok: t.ok,
+        ends,
+        numbers,
+    }
+}
+
+fn read_word(kind: u8, word: &[u8], ins: &mut [u8], outs: &mut [u8], at: usize) -> Taken {
+    if kind == b'n' {
+        return of_number(lines::decimal(word, 4294967295), at);
+    }
+    if kind == b'w' {
+        return of_number(lines::decimal(word, 18446744073709551615), at);
+    }
+    if kind == b'o' {
+        return of_output(lines::decode(word, outs, 0), at);
+    }
+    of_bytes(kind, lines::decode(word, ins, at), at)
+}
+
+fn bad(at: usize) -> Taken {
+    Taken {
+        ok: false,
+        end: at,
+        number: 0,
+    }
+}
+
+fn of_number(n: Number, at: usize) -> Taken {
+    match n {
+        Number::Is(v) => Taken {
+            ok: true,
+            end: at,
+            number: v,
+        },
+        Number::Not => bad(at),
+    }
+}
+
+fn of_output(d: Decoded, at: usize) -> Taken {
+    match d {
+        Decoded::End(n) => Taken {
+            ok: true,
+            end: at,
+            number: n as u64,
+        },
+        Decoded::Bad => bad(at),
+    }
+}
+
+fn of_bytes(kind: u8, d: Decoded, at: usize) -> Taken {
+    match d {
+        Decoded::End(e) => Taken {
+            ok: has_size(kind, at, e),
+            end: e,
+            number: 0,
+        },
+        Decoded::Bad => bad(at),
+    }
+}
+
+// Whether the bytes from `from` up to `to` are as many as the form asks.
+fn has_size(kind: u8, from: usize, to: usize) -> bool {
+    if to < from {
+        return false;
+    }
+    if kind == b'1' {
+        return to - from == 1;
+    }
+    if kind == b'b' {
+        return to - from == 16;
+    }
+    true
+}
+
+// The bytes of word k.
+pub fn bytes(ins: &[u8], a: Args, k: usize) -> &[u8] {
+    let ends = a.ends;
+    if k == 0 {
+        return &ins[..0];
+    }
+    if 8 <= k {
+        return &ins[..0];
+    }
+    lines::part(ins, ends[k - 1], ends[k])
+}
+
+// How many bytes at the front of its memory the output has that is word k, so that a call is lent `&mut outs[..n]`.
+pub fn out_len(a: Args, k: usize, outs: &[u8]) -> usize
+    ensures { λ r. ⌜ Counts r (now (outs .entry)) ⌝ }
+{
+    let numbers = a.numbers;
+    if 8 <= k {
+        return 0;
+    }
+    let n = numbers[k] as usize;
+    if outs.len() < n { 0 } else { n }
+}
+
+// The byte of word k where the form asks for one.
+pub fn byte(ins: &[u8], a: Args, k: usize) -> u8 {
+    let s = bytes(ins, a, k);
+    if s.len() == 1 { s[0] } else { 0 }
+}
+
+// The block of word k where the form asks for one.
+pub fn block(ins: &[u8], a: Args, k: usize) -> [u8; 16] {
+    let s = bytes(ins, a, k);
+    let mut b = [0u8; 16];
+    for i in 0..16 {
+        b[i] = byte_or_zero(s, i);
+    }
+    b
+}
+
+fn byte_or_zero(s: &[u8], i: usize) -> u8 {
+    if i < s.len() { s[i] } else { 0 }
+}

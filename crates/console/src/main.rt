@@ -1,0 +1,237 @@
+// Reads lines on standard input and answers each with one line on standard output.
+mod args;
+mod calls;
+mod held;
+mod print;
+
+use held::Held;
+use libc::STDIN_FILENO;
+use libc::STDOUT_FILENO;
+ghost use Prim.Native.Nat.{_<_};
+ghost use lib.ListN.{length};
+
+// The longest line, and the bytes that its words can stand for, two digits each.
+type Line = [u8; 65536];
+
+type Bytes = [u8; 32768];
+
+// The answers that wait: 65,536 bytes and room for one more, which is at most 1024 bytes longer than the longest line.
+type Answers = [u8; 132096];
+
+// The line so far: its length, and whether it has passed the longest.
+pub struct Place {
+    pub len: usize,
+    pub over: bool,
+}
+
+// Where reading stands: what is held, the line so far, and the place of the next byte to read.
+pub struct Fed {
+    pub held: Held,
+    pub place: Place,
+    pub at: usize,
+}
+
+// Whether the input goes on, after a turn of reading.
+pub struct Turned {
+    pub held: Held,
+    pub place: Place,
+    pub go_on: bool,
+}
+
+fn empty() -> Place {
+    Place {
+        len: 0,
+        over: false,
+    }
+}
+
+// The line with `s` after it; where that is too long, the line is marked and nothing is put.
+fn extend(p: Place, s: &[u8], line: &mut [u8]) -> Place {
+    let n = p.len;
+    if line.len() < n {
+        return Place { len: n, over: true };
+    }
+    if line.len() - n < s.len() {
+        return Place { len: n, over: true };
+    }
+    Place {
+        len: lines::put(s, line, n),
+        over: p.over,
+    }
+}
+
+fn written(held: Held, text: &[u8]) -> Held {
+    io::write_all(STDOUT_FILENO, lines::part(text, 0, held.end));
+    held.at(0)
+}
+
+// Past the mark up to which there is room for one more answer, those that wait are written first.
+fn with_room(held: Held, text: &[u8]) -> Held {
+    if held.end < 65536 {
+        return held;
+    }
+    written(held, text)
+}
+
+// Answers a whole line; where that puts nothing the line was bad.
+fn finish(
+    h: Held,
+    p: Place,
+    line: &Line,
+    ins: &mut Bytes,
+    outs: &mut Bytes,
+    text: &mut Answers,
+) -> Held {
+    let held = with_room(h, text);
+    let from = held.end;
+    let d = judge(held, p, line, ins, outs, text);
+    let to = d.end;
+    d.at(close(from, to, text))
+}
+
+fn judge(
+    held: Held,
+    p: Place,
+    line: &Line,
+    ins: &mut Bytes,
+    outs: &mut Bytes,
+    text: &mut Answers,
+) -> Held {
+    if p.over {
+        return held;
+    }
+    calls::answer(held, lines::part(line, 0, p.len), ins, outs, text)
+}
+
+fn close(from: usize, to: usize, text: &mut [u8]) -> usize {
+    if from == to {
+        return lines::put(b"?\n", text, to);
+    }
+    lines::put(b"\n", text, to)
+}
+
+// Reads `part` from `at` up to its next line feed, or its end.
+fn feed_line(
+    held: Held,
+    p: Place,
+    part: &[u8],
+    at: usize,
+    line: &mut Line,
+    ins: &mut Bytes,
+    outs: &mut Bytes,
+    text: &mut Answers,
+) -> Fed
+    requires { ⌜ at < length (now part) ⌝ }
+    ensures { λ r. ⌜ at < r .at ⌝ }
+{
+    let e = lines::find(part, at, 10);
+    let place = extend(p, lines::part(part, at, e), line);
+    if part.len() <= e {
+        return Fed {
+            held,
+            place,
+            at: part.len(),
+        };
+    }
+    let next = e + 1;
+    Fed {
+        held: finish(held, place, line, ins, outs, text),
+        place: empty(),
+        at: next,
+    }
+}
+
+fn feed(
+    h: Held,
+    p: Place,
+    part: &[u8],
+    line: &mut Line,
+    ins: &mut Bytes,
+    outs: &mut Bytes,
+    text: &mut Answers,
+) -> Turned {
+    let mut held = h;
+    let mut place = p;
+    let mut at: usize = 0;
+    while at < part.len() {
+        let f = feed_line(held, place, part, at, line, ins, outs, text);
+        held = f.held;
+        place = f.place;
+        at = f.at;
+    }
+    Turned {
+        held: written(held, text),
+        place,
+        go_on: true,
+    }
+}
+
+// At the end of the input a line that has begun counts.
+fn end(
+    h: Held,
+    p: Place,
+    line: &Line,
+    ins: &mut Bytes,
+    outs: &mut Bytes,
+    text: &mut Answers,
+) -> Turned {
+    if !started(p) {
+        return Turned {
+            held: h,
+            place: p,
+            go_on: false,
+        };
+    }
+    let held = finish(h, p, line, ins, outs, text);
+    Turned {
+        held: written(held, text),
+        place: empty(),
+        go_on: false,
+    }
+}
+
+fn started(p: Place) -> bool {
+    if 0 < p.len { true } else { p.over }
+}
+
+// Reads once and answers the lines that came whole.
+fn turn(
+    held: Held,
+    p: Place,
+    line: &mut Line,
+    ins: &mut Bytes,
+    outs: &mut Bytes,
+    text: &mut Answers,
+) -> Turned {
+    let mut chunk = [0u8; 4096];
+    let got = libc::read(STDIN_FILENO, &mut chunk);
+    if got <= 0 {
+        return end(held, p, line, ins, outs, text);
+    }
+    let n = io::count(got, &chunk);
+    feed(held, p, &chunk[..n], line, ins, outs, text)
+}
+
+// Nothing says that the input ends, so the turns are counted down from a number that no run uses up.
+fn serve(line: &mut Line, ins: &mut Bytes, outs: &mut Bytes, text: &mut Answers) {
+    let mut held = Held::new();
+    let mut place = empty();
+    let mut turns = u64::MAX;
+    while turns > 0 {
+        let t = turn(held, place, line, ins, outs, text);
+        if !t.go_on {
+            return;
+        }
+        held = t.held;
+        place = t.place;
+        turns -= 1;
+    }
+}
+
+fn main() {
+    let mut line = [0u8; 65536];
+    let mut ins = [0u8; 32768];
+    let mut outs = [0u8; 32768];
+    let mut text = [0u8; 132096];
+    serve(&mut line, &mut ins, &mut outs, &mut text);
+}

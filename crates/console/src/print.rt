@@ -1,0 +1,36 @@
+// Answers as text, put into lent memory at a place: the place after them.
+
+// A number in decimal.
+pub fn number(n: u64, text: &mut [u8], at: usize) -> usize {
+    let mut digits = [0u8; 20];
+    let k = io::decimal(n, &mut digits);
+    lines::put(&digits[..k], text, at)
+}
+
+// `N BYTES`
+pub fn number_bytes(n: u64, bytes: &[u8], text: &mut [u8], at: usize) -> usize {
+    let p = number(n, text, at);
+    let q = lines::put(b" ", text, p);
+    lines::put_hex(bytes, text, q)
+}
+
+// A word as eight hex digits, the high byte first.
+fn word(x: u32, text: &mut [u8], at: usize) -> usize {
+    let b = [
+        (x / 16777216 % 256) as u8,
+        (x / 65536 % 256) as u8,
+        (x / 256 % 256) as u8,
+        (x % 256) as u8,
+    ];
+    lines::put_hex(&b, text, at)
+}
+
+// `N WORDS`
+pub fn number_words(n: u64, words: [u32; 60], text: &mut [u8], at: usize) -> usize {
+    let p = number(n, text, at);
+    let mut q = lines::put(b" ", text, p);
+    for i in 0..60 {
+        q = word(words[i], text, q);
+    }
+    q
+}

@@ -1,0 +1,4 @@
+pub mod Hex
+pub mod Numbers
+pub mod Places
+pub mod Words

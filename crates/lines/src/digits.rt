@@ -1,0 +1,141 @@
+// Digits one by one: of hex, read and written, and of decimal numbers.
+use crate::Number;
+ghost use mathlib.Core.Path.{_≡_};
+ghost use mathlib.Core.Bool.{true};
+ghost use Prim.Native.Nat.{_+_, _*_, _≤_, _<_};
+ghost use lib.ListN.{length};
+ghost use lib.Seq.{paste};
+ghost use Rattle.lines.specs.Hex.{digitOf, charOf, byteOf, unhex, hexOf, allHex, isDash, isBytes};
+ghost use Rattle.lines.specs.Numbers.{moreOf};
+
+// The value of a hex digit, and 16 for any other byte.
+fn digit(c: u8) -> u8
+    ensures { λ r. ⌜ r ≡ digitOf c ⌝ }
+{
+    if c < 48 {
+        return 16;
+    }
+    if c < 58 {
+        return c - 48;
+    }
+    if c < 65 {
+        return 16;
+    }
+    if c < 71 {
+        return c - 55;
+    }
+    if c < 97 {
+        return 16;
+    }
+    if c < 103 {
+        return c - 87;
+    }
+    16
+}
+
+fn char_of(n: u8) -> u8
+    requires { ⌜ n < 16 ⌝ }
+    ensures { λ r. ⌜ r ≡ charOf n ⌝ }
+{
+    if n < 10 { 48 + n } else { 87 + n }
+}
+
+fn pair(a: u8, b: u8) -> u8
+    requires { ⌜ (digitOf a < 16) × (digitOf b < 16) ⌝ }
+    ensures { λ r. ⌜ r ≡ byteOf a b ⌝ }
+{
+    digit(a) * 16 + digit(b)
+}
+
+fn all_hex(s: &[u8]) -> bool
+    ensures { λ r. ⌜ r ≡ allHex (now (s .entry)) ⌝ }
+{
+    let mut i: usize = 0;
+    while i < s.len() {
+        if 15 < digit(s[i]) {
+            return false;
+        }
+        i += 1;
+    }
+    true
+}
+
+fn is_dash(word: &[u8]) -> bool
+    ensures { λ r. ⌜ r ≡ isDash (now (word .entry)) ⌝ }
+{
+    if word.len() == 1 {
+        return word[0] == 45;
+    }
+    false
+}
+
+pub fn is_bytes(word: &[u8]) -> bool
+    ensures { λ r. ⌜ r ≡ isBytes (now (word .entry)) ⌝ }
+{
+    if is_dash(word) {
+        return true;
+    }
+    if word.len() == 0 {
+        return false;
+    }
+    if word.len() % 2 != 0 {
+        return false;
+    }
+    all_hex(word)
+}
+
+// The n bytes of a word, two digits each: `-` has none.
+pub fn fill(s: &[u8], n: usize, out: &mut [u8], at: usize)
+    requires { ⌜ (2 * n ≤ length (now s)) × (at + n ≤ length (now out)) × (isBytes (now s) ≡ true) ⌝ }
+    ensures { λ _. ⌜ now (out .exit) ≡ paste (now (out .entry)) at (unhex (now (s .entry))) n ⌝ }
+{
+    let mut i: usize = 0;
+    while i < n {
+        out[at + i] = pair(s[2 * i], s[2 * i + 1]);
+        i += 1;
+    }
+}
+
+pub fn spell(s: &[u8], out: &mut [u8], at: usize)
+    requires { ⌜ at + 2 * length (now s) ≤ length (now out) ⌝ }
+    ensures { λ _. ⌜ now (out .exit) ≡ paste (now (out .entry)) at (hexOf (now (s .entry))) (2 * length (now (s .entry))) ⌝ }
+{
+    let mut i: usize = 0;
+    while i < s.len() {
+        let b = s[i];
+        out[at + 2 * i] = char_of(b / 16);
+        out[at + 2 * i + 1] = char_of(b % 16);
+        i += 1;
+    }
+}
+
+pub fn copy(s: &[u8], out: &mut [u8], at: usize)
+    requires { ⌜ at + length (now s) ≤ length (now out) ⌝ }
+    ensures { λ _. ⌜ now (out .exit) ≡ paste (now (out .entry)) at (now (s .entry)) (length (now (s .entry))) ⌝ }
+{
+    let mut i: usize = 0;
+    while i < s.len() {
+        out[at + i] = s[i];
+        i += 1;
+    }
+}
+
+// A number with one more decimal digit, where that is one and the number is at most `most`.
+pub fn more(value: u64, d: u8, most: u64) -> Number
+    ensures { λ r. ⌜ r ≡ moreOf value d most ⌝ }
+{
+    if d < 48 {
+        return Number::Not;
+    }
+    if 57 < d {
+        return Number::Not;
+    }
+    let v = (d - 48) as u64;
+    if most < v {
+        return Number::Not;
+    }
+    if (most - v) / 10 < value {
+        return Number::Not;
+    }
+    Number::Is(value * 10 + v)
+}

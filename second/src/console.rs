@@ -1,0 +1,251 @@
+//! The console: one answer line for every line read, `?` for a line that is no call.
+//!
+//! Where the page that fixes the form of the lines is silent, it is read so:
+//!
+//! - A line is judged whole before anything is called: bad hex beside a key of a wrong length
+//!   answers `?`, not 1. So does a block that is not 16 bytes, or a factor of `product` that is
+//!   not one byte, `-` too.
+//! - First words are in lower case only. Two spaces in a row make an empty word, which is
+//!   neither hex nor a number; so do a space at the front and one at the end.
+//! - `-` is no bytes where bytes are due and bad where a number is due. Inside a longer word it
+//!   is bad hex.
+//! - A number may have any count of leading zeros that the line has room for; what fits is
+//!   judged by its value. A sign is bad.
+//! - The limit on a line holds for the last one too, with or without a line feed. No bytes after
+//!   the last line feed are no line, so empty input gets no answer.
+//! - `check-feed` answers `0` on the zero record too, and `check-close` then still gives zeros.
+//! - A turn refused as a whole answers 0 accepted, a sum of 0, and `-` for PLACE, REASON and
+//!   VALUE. A value of 0 is shown as `0`, not as `-`.
+//! - Each answer is written out when its line has been read, before the next one is.
+
+use crate::aes::{Block, KeySchedule};
+use crate::cmac::{self, RunningCheck};
+use crate::field;
+use crate::hex;
+use crate::image::{self, Reader, Turn};
+use crate::modes::{self, Mode, Way};
+use crate::refusal::{number_of, Refusal};
+use std::io::{self, BufRead, Read, Write};
+
+/// The longest line, without its line feed.
+pub const LONGEST: usize = 65_536;
+
+pub const BAD: &str = "?";
+
+const SCHEDULE_BYTES: usize = 4 * 60;
+
+pub fn serve(input: &mut impl BufRead, output: &mut impl Write) -> io::Result<()> {
+    let mut console = Console::default();
+    let mut line = Vec::new();
+    while read_line(input, &mut line)? {
+        output.write_all(console.answer(&line).as_bytes())?;
+        output.write_all(b"\n")?;
+        output.flush()?;
+    }
+    Ok(())
+}
+
+/// Reads the next line without its line feed, or says that there is none. Of a line that is too
+/// long no more is kept than shows that it is.
+fn read_line(input: &mut impl BufRead, line: &mut Vec<u8>) -> io::Result<bool> {
+    line.clear();
+    let limit = LONGEST as u64 + 1;
+    if input.by_ref().take(limit).read_until(b'\n', line)? == 0 {
+        return Ok(false);
+    }
+    if line.last() == Some(&b'\n') {
+        line.pop();
+    } else if line.len() > LONGEST {
+        input.skip_until(b'\n')?;
+    }
+    Ok(true)
+}
+
+/// What is held from line to line.
+#[derive(Clone, Default)]
+pub struct Console {
+    check: RunningCheck,
+    reader: Reader,
+}
+
+impl Console {
+    pub fn answer(&mut self, line: &[u8]) -> String {
+        if line.len() > LONGEST {
+            return BAD.to_string();
+        }
+        let words: Vec<&[u8]> = line.split(|byte| *byte == b' ').collect();
+        self.call(&words).unwrap_or_else(|| BAD.to_string())
+    }
+
+    pub fn reader(&self) -> &Reader {
+        &self.reader
+    }
+
+    /// The answer of the call that the words make, or none where they make no call.
+    fn call(&mut self, words: &[&[u8]]) -> Option<String> {
+        let (name, words) = words.split_first()?;
+        match (*name, words) {
+            (b"product", [a, b]) => product(a, b),
+            (b"schedule", [key]) => schedule(key),
+            (b"encrypt", [key, block]) => one_block(key, block, KeySchedule::encrypt),
+            (b"decrypt", [key, block]) => one_block(key, block, KeySchedule::decrypt),
+            (b"check", [key, message]) => check(key, message),
+            (b"check-start", [key]) => self.check_start(key),
+            (b"check-feed", [part]) => self.check_feed(part),
+            (b"check-close", []) => Some(block_answer(Ok(self.check.close()))),
+            (b"write", words) => write(words),
+            (b"read-start", [encryption, check]) => self.read_start(encryption, check),
+            (b"read-turn", [asked, blocks, output]) => self.read_turn(asked, blocks, output),
+            (b"read-complete", []) => Some(number_of(&self.reader.complete()).to_string()),
+            (name, [key, iv, input, output]) => mode_call(name, key, iv, input, output),
+            _ => None,
+        }
+    }
+
+    fn check_start(&mut self, key: &[u8]) -> Option<String> {
+        let started = RunningCheck::start(&hex::read(key)?);
+        let number = number_of(&started);
+        self.check = started.unwrap_or_default();
+        Some(number.to_string())
+    }
+
+    fn check_feed(&mut self, part: &[u8]) -> Option<String> {
+        self.check.feed(&hex::read(part)?);
+        Some("0".to_string())
+    }
+
+    fn read_start(&mut self, encryption_key: &[u8], check_key: &[u8]) -> Option<String> {
+        let started = Reader::start(&hex::read(encryption_key)?, &hex::read(check_key)?);
+        let number = number_of(&started);
+        self.reader = started.unwrap_or_default();
+        Some(number.to_string())
+    }
+
+    fn read_turn(&mut self, asked: &[u8], blocks: &[u8], output: &[u8]) -> Option<String> {
+        let (asked, blocks) = (number(asked)?, hex::read(blocks)?);
+        let mut output = hex::read(output)?;
+        let turn = self.reader.turn(asked, &blocks, &mut output);
+        Some(format!("{} {}", turn_answer(turn), hex::shown(&output)))
+    }
+}
+
+fn product(a: &[u8], b: &[u8]) -> Option<String> {
+    let ([a], [b]) = (bytes(a)?, bytes(b)?);
+    Some(format!("0 {:02x}", field::product(a, b)))
+}
+
+fn schedule(key: &[u8]) -> Option<String> {
+    let schedule = KeySchedule::new(&hex::read(key)?);
+    let number = number_of(&schedule);
+    let mut words = match schedule {
+        Ok(schedule) => schedule.words().as_flattened().to_vec(),
+        Err(_) => Vec::new(),
+    };
+    words.resize(SCHEDULE_BYTES, 0);
+    Some(format!("{number} {}", hex::shown(&words)))
+}
+
+type OneBlock = fn(&KeySchedule, &Block) -> Block;
+
+fn one_block(key: &[u8], block: &[u8], way: OneBlock) -> Option<String> {
+    let (key, block) = (hex::read(key)?, bytes(block)?);
+    Some(block_answer(
+        KeySchedule::new(&key).map(|key| way(&key, &block)),
+    ))
+}
+
+fn check(key: &[u8], message: &[u8]) -> Option<String> {
+    let (key, message) = (hex::read(key)?, hex::read(message)?);
+    Some(block_answer(
+        KeySchedule::new(&key).map(|key| cmac::check(&key, &message)),
+    ))
+}
+
+fn mode_call(name: &[u8], key: &[u8], iv: &[u8], input: &[u8], output: &[u8]) -> Option<String> {
+    let (mode, way) = mode_named(name)?;
+    let (key, iv, input) = (hex::read(key)?, hex::read(iv)?, hex::read(input)?);
+    let mut output = hex::read(output)?;
+    let result = modes::run(mode, way, &key, &iv, &input, &mut output);
+    Some(format!("{} {}", number_of(&result), hex::shown(&output)))
+}
+
+fn mode_named(name: &[u8]) -> Option<(Mode, Way)> {
+    match name {
+        b"ecb-encrypt" => Some((Mode::Ecb, Way::Encrypt)),
+        b"ecb-decrypt" => Some((Mode::Ecb, Way::Decrypt)),
+        b"cbc-encrypt" => Some((Mode::Cbc, Way::Encrypt)),
+        b"cbc-decrypt" => Some((Mode::Cbc, Way::Decrypt)),
+        b"cfb-encrypt" => Some((Mode::Cfb, Way::Encrypt)),
+        b"cfb-decrypt" => Some((Mode::Cfb, Way::Decrypt)),
+        b"ofb-encrypt" => Some((Mode::Ofb, Way::Encrypt)),
+        b"ofb-decrypt" => Some((Mode::Ofb, Way::Decrypt)),
+        _ => None,
+    }
+}
+
+fn write(words: &[&[u8]]) -> Option<String> {
+    let [encryption_key, check_key, block_number, count, release, payload, output] = words else {
+        return None;
+    };
+    let (encryption_key, check_key) = (hex::read(encryption_key)?, hex::read(check_key)?);
+    let (block_number, count) = (number(block_number)?, number(count)?);
+    let (release, payload) = (number(release)?, hex::read(payload)?);
+    let mut output = hex::read(output)?;
+    let result = image::write(
+        &encryption_key,
+        &check_key,
+        block_number,
+        count,
+        release,
+        &payload,
+        &mut output,
+    );
+    Some(format!("{} {}", number_of(&result), hex::shown(&output)))
+}
+
+/// Everything that a turn answers before its output.
+fn turn_answer(turn: Result<Turn, Refusal>) -> String {
+    let number = number_of(&turn);
+    let Turn {
+        accepted,
+        sum,
+        stop,
+    } = turn.unwrap_or_default();
+    match stop {
+        None => format!("{number} {accepted} {sum} - - -"),
+        Some(stop) => {
+            let value = stop
+                .value
+                .map_or("-".to_string(), |value| value.to_string());
+            format!(
+                "{number} {accepted} {sum} {accepted} {} {value}",
+                stop.reason.number()
+            )
+        }
+    }
+}
+
+fn block_answer(result: Result<Block, Refusal>) -> String {
+    let number = number_of(&result);
+    format!("{number} {}", hex::shown(&result.unwrap_or_default()))
+}
+
+/// Exactly N bytes, given in hex.
+fn bytes<const N: usize>(word: &[u8]) -> Option<[u8; N]> {
+    hex::read(word)?.try_into().ok()
+}
+
+/// A decimal number of the width that is asked for.
+fn number<T: TryFrom<u64>>(word: &[u8]) -> Option<T> {
+    if word.is_empty() {
+        return None;
+    }
+    let value = word.iter().try_fold(0u64, |value, letter| match letter {
+        b'0'..=b'9' => value.checked_mul(10)?.checked_add(u64::from(letter - b'0')),
+        _ => None,
+    });
+    T::try_from(value?).ok()
+}
+
+#[cfg(test)]
+mod tests;

@@ -1,0 +1,70 @@
+//! An independent second program for the cipher, its modes, the check and release images.
+
+mod aes;
+mod cmac;
+mod console;
+mod field;
+mod hex;
+mod image;
+mod listing;
+mod modes;
+mod random;
+mod refusal;
+
+use std::env;
+use std::io::{self, BufWriter, Read, Write};
+use std::process::ExitCode;
+
+const USAGE: &str = "usage: second console | second list | second random SEED COUNT [CALL,CALL...]";
+
+fn main() -> ExitCode {
+    let words: Vec<String> = env::args_os()
+        .skip(1)
+        .map(|word| word.to_string_lossy().into_owned())
+        .collect();
+    let words: Vec<&str> = words.iter().map(String::as_str).collect();
+    match run(&words) {
+        Ok(()) => ExitCode::SUCCESS,
+        Err(message) => {
+            // There is nobody left to tell when this fails too.
+            let _ = writeln!(io::stderr(), "second: {message}");
+            ExitCode::FAILURE
+        }
+    }
+}
+
+fn run(words: &[&str]) -> Result<(), String> {
+    let done = match words {
+        ["console"] => console::serve(&mut io::stdin().lock(), &mut io::stdout().lock()),
+        ["list"] => list(),
+        ["random", seed, count] => random(number(seed)?, number(count)?, None)?,
+        ["random", seed, count, calls] => random(number(seed)?, number(count)?, Some(calls))?,
+        _ => return Err(USAGE.to_string()),
+    };
+    done.map_err(|error| error.to_string())
+}
+
+fn list() -> io::Result<()> {
+    let mut input = Vec::new();
+    io::stdin().lock().read_to_end(&mut input)?;
+    io::stdout().write_all(listing::list(&input).as_bytes())
+}
+
+/// The outer error is one of the words, the inner one of the writing.
+fn random(seed: u64, count: u64, calls: Option<&str>) -> Result<io::Result<()>, String> {
+    let lines = random::Lines::new(seed, calls)?;
+    Ok(print_lines(lines, count))
+}
+
+fn print_lines(lines: random::Lines, count: u64) -> io::Result<()> {
+    let mut output = BufWriter::new(io::stdout().lock());
+    for (_, line) in (0..count).zip(lines) {
+        output.write_all(&line)?;
+        output.write_all(b"\n")?;
+    }
+    output.flush()
+}
+
+fn number(word: &str) -> Result<u64, String> {
+    word.parse().map_err(|_| format!("not a number: {word:?}"))
+}

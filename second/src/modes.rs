@@ -1,0 +1,218 @@
+//! The modes of SP 800-38A on whole pieces of 16 bytes: ECB, CBC, CFB with 16-byte segments, OFB.
+
+use crate::aes::{Block, KeySchedule};
+use crate::refusal::Refusal;
+use std::array::from_fn;
+
+#[derive(Clone, Copy, PartialEq, Eq, Debug)]
+pub enum Mode {
+    Ecb,
+    Cbc,
+    Cfb,
+    Ofb,
+}
+
+#[derive(Clone, Copy, PartialEq, Eq, Debug)]
+pub enum Way {
+    Encrypt,
+    Decrypt,
+}
+
+pub fn run(
+    mode: Mode,
+    way: Way,
+    key: &[u8],
+    iv: &[u8],
+    input: &[u8],
+    output: &mut [u8],
+) -> Result<(), Refusal> {
+    let key = KeySchedule::new(key)?;
+    let iv = starting_vector(mode, iv)?;
+    let pieces = whole_pieces(input)?;
+    let room = output.get_mut(..input.len()).ok_or(Refusal::OutputShort)?;
+    room.copy_from_slice(transform(mode, way, &key, iv, pieces).as_flattened());
+    Ok(())
+}
+
+fn starting_vector(mode: Mode, iv: &[u8]) -> Result<Block, Refusal> {
+    match mode {
+        Mode::Ecb if iv.is_empty() => Ok([0; 16]),
+        Mode::Ecb => Err(Refusal::IvLength),
+        Mode::Cbc | Mode::Cfb | Mode::Ofb => iv.try_into().map_err(|_| Refusal::IvLength),
+    }
+}
+
+fn whole_pieces(input: &[u8]) -> Result<&[Block], Refusal> {
+    match input.as_chunks() {
+        (pieces, []) => Ok(pieces),
+        _ => Err(Refusal::InputLength),
+    }
+}
+
+fn transform(mode: Mode, way: Way, key: &KeySchedule, iv: Block, pieces: &[Block]) -> Vec<Block> {
+    match (mode, way) {
+        (Mode::Ecb, Way::Encrypt) => pieces.iter().map(|piece| key.encrypt(piece)).collect(),
+        (Mode::Ecb, Way::Decrypt) => pieces.iter().map(|piece| key.decrypt(piece)).collect(),
+        (Mode::Cbc, Way::Encrypt) => cbc_encrypt(key, iv, pieces),
+        (Mode::Cbc, Way::Decrypt) => cbc_decrypt(key, iv, pieces),
+        (Mode::Cfb, Way::Encrypt) => cfb_encrypt(key, iv, pieces),
+        (Mode::Cfb, Way::Decrypt) => cfb_decrypt(key, iv, pieces),
+        (Mode::Ofb, _) => ofb(key, iv, pieces),
+    }
+}
+
+pub fn cbc_encrypt(key: &KeySchedule, iv: Block, plain: &[Block]) -> Vec<Block> {
+    let mut last = iv;
+    let sealed = plain.iter().map(|piece| {
+        last = key.encrypt(&xor(piece, &last));
+        last
+    });
+    sealed.collect()
+}
+
+pub fn cbc_decrypt(key: &KeySchedule, iv: Block, sealed: &[Block]) -> Vec<Block> {
+    let before = [iv].into_iter().chain(sealed.iter().copied());
+    sealed
+        .iter()
+        .zip(before)
+        .map(|(piece, last)| xor(&key.decrypt(piece), &last))
+        .collect()
+}
+
+fn cfb_encrypt(key: &KeySchedule, iv: Block, plain: &[Block]) -> Vec<Block> {
+    let mut last = iv;
+    let sealed = plain.iter().map(|piece| {
+        last = xor(piece, &key.encrypt(&last));
+        last
+    });
+    sealed.collect()
+}
+
+fn cfb_decrypt(key: &KeySchedule, iv: Block, sealed: &[Block]) -> Vec<Block> {
+    let before = [iv].into_iter().chain(sealed.iter().copied());
+    sealed
+        .iter()
+        .zip(before)
+        .map(|(piece, last)| xor(piece, &key.encrypt(&last)))
+        .collect()
+}
+
+fn ofb(key: &KeySchedule, iv: Block, pieces: &[Block]) -> Vec<Block> {
+    let mut stream = iv;
+    let result = pieces.iter().map(|piece| {
+        stream = key.encrypt(&stream);
+        xor(piece, &stream)
+    });
+    result.collect()
+}
+
+pub fn xor(a: &Block, b: &Block) -> Block {
+    from_fn(|i| a[i] ^ b[i])
+}
+
+#[cfg(test)]
+mod tests {
+    use super::*;
+    use crate::hex::{bytes, shown};
+
+    const KEYS: [&str; 3] = [
+        "2b7e151628aed2a6abf7158809cf4f3c",
+        "8e73b0f7da0e6452c810f32b809079e562f8ead2522c6b7b",
+        "603deb1015ca71be2b73aef0857d77811f352c073b6108d72d9810a30914dff4",
+    ];
+    const IV: &str = "000102030405060708090a0b0c0d0e0f";
+    const PLAIN: &str = "6bc1bee22e409f96e93d7e117393172aae2d8a571e03ac9c9eb76fac45af8e51";
+
+    /// The plain text and its sealed form are cut to the length of `sealed`.
+    #[track_caller]
+    fn both_ways(mode: Mode, key: &str, iv: &str, sealed: &str) {
+        let plain = &PLAIN[..sealed.len()];
+        assert_eq!(answer(mode, Way::Encrypt, key, iv, plain), sealed);
+        assert_eq!(answer(mode, Way::Decrypt, key, iv, sealed), plain);
+    }
+
+    fn answer(mode: Mode, way: Way, key: &str, iv: &str, input: &str) -> String {
+        let input = bytes(input);
+        let mut output = vec![0; input.len()];
+        run(mode, way, &bytes(key), &bytes(iv), &input, &mut output).unwrap();
+        shown(&output)
+    }
+
+    #[test]
+    fn ecb_examples() {
+        both_ways(Mode::Ecb, KEYS[0], "-", "3ad77bb40d7a3660a89ecaf32466ef97");
+        both_ways(Mode::Ecb, KEYS[1], "-", "bd334f1d6e45f25ff712a214571fa5cc");
+        both_ways(Mode::Ecb, KEYS[2], "-", "f3eed1bdb5d2a03c064b5a7e3db181f8");
+    }
+
+    #[test]
+    fn cbc_examples() {
+        let two = "7649abac8119b246cee98e9b12e9197d5086cb9b507219ee95db113a917678b2";
+        both_ways(Mode::Cbc, KEYS[0], IV, two);
+        both_ways(Mode::Cbc, KEYS[1], IV, "4f021db243bc633d7178183a9fa071e8");
+        both_ways(Mode::Cbc, KEYS[2], IV, "f58c4c04d6e5f1ba779eabfb5f7bfbd6");
+    }
+
+    #[test]
+    fn cfb_examples() {
+        let two = "3b3fd92eb72dad20333449f8e83cfb4ac8a64537a0b3a93fcde3cdad9f1ce58b";
+        both_ways(Mode::Cfb, KEYS[0], IV, two);
+        both_ways(Mode::Cfb, KEYS[1], IV, "cdc80d6fddf18cab34c25909c99a4174");
+        both_ways(Mode::Cfb, KEYS[2], IV, "dc7e84bfda79164b7ecd8486985d3860");
+    }
+
+    #[test]
+    fn ofb_examples() {
+        let two = "3b3fd92eb72dad20333449f8e83cfb4a7789508d16918f03f53c52dac54ed825";
+        both_ways(Mode::Ofb, KEYS[0], IV, two);
+        both_ways(Mode::Ofb, KEYS[1], IV, "cdc80d6fddf18cab34c25909c99a4174");
+        both_ways(Mode::Ofb, KEYS[2], IV, "dc7e84bfda79164b7ecd8486985d3860");
+    }
+
+    #[test]
+    fn refusals_come_in_order_and_leave_the_output() {
+        let lengths = [
+            ((15, 15, 17, 0), Refusal::KeyLength),
+            ((16, 15, 17, 0), Refusal::IvLength),
+            ((16, 16, 17, 0), Refusal::InputLength),
+            ((16, 16, 16, 15), Refusal::OutputShort),
+        ];
+        for ((key, iv, input, room), refusal) in lengths {
+            let mut output = vec![0xaa; room];
+            let (key, iv, input) = (vec![0; key], vec![0; iv], vec![0; input]);
+            let result = run(Mode::Cbc, Way::Encrypt, &key, &iv, &input, &mut output);
+            assert_eq!(result, Err(refusal));
+            assert_eq!(output, vec![0xaa; room]);
+        }
+    }
+
+    #[test]
+    fn output_past_the_input_stays() {
+        let mut output = [0xaa; 20];
+        assert_eq!(
+            run(
+                Mode::Ofb,
+                Way::Decrypt,
+                &[0; 16],
+                &[0; 16],
+                &[],
+                &mut output
+            ),
+            Ok(())
+        );
+        assert_eq!(output, [0xaa; 20]);
+        assert_eq!(
+            run(
+                Mode::Ecb,
+                Way::Encrypt,
+                &[0; 16],
+                &[],
+                &[0; 16],
+                &mut output
+            ),
+            Ok(())
+        );
+        assert_eq!(output[16..], [0xaa; 4]);
+        assert_ne!(output[..16], [0xaa; 16]);
+    }
+}

@@ -1,0 +1,146 @@
+//! Random console lines from a fixed seed: mostly good calls, some refused, some no calls at all.
+
+mod calls;
+mod plan;
+mod rng;
+mod spoil;
+
+use crate::console::{Console, BAD};
+use calls::{Call, Draw, CALLS};
+
+/// How many of a hundred lines are spoiled, and how many good ones are written in other case.
+const SPOILED: usize = 20;
+const RECASED: usize = 25;
+
+/// One line in this many is made about as long as a line may be.
+const STRETCHED: usize = 250;
+
+pub struct Lines {
+    calls: Vec<Call>,
+    draw: Draw,
+    /// Answers every line drawn, so that later lines can suit what is held by then.
+    console: Console,
+}
+
+impl Lines {
+    /// Lines of the calls named, parted by commas, or of all calls.
+    pub fn new(seed: u64, names: Option<&str>) -> Result<Lines, String> {
+        let calls = match names {
+            Some(names) => names.split(',').map(call_named).collect::<Result<_, _>>()?,
+            None => CALLS.to_vec(),
+        };
+        Ok(Lines {
+            calls,
+            draw: Draw::new(seed),
+            console: Console::default(),
+        })
+    }
+
+    fn draw_line(&mut self) -> Vec<u8> {
+        let Some(call) = self.draw_call() else {
+            return Vec::new();
+        };
+        let mut words = vec![call.name.to_string()];
+        words.extend((call.words)(&mut self.draw));
+        let rng = &mut self.draw.rng;
+        if rng.below(STRETCHED) == 0 {
+            spoil::stretched(rng, words)
+        } else if rng.percent(SPOILED) {
+            spoil::spoiled(rng, words)
+        } else if rng.percent(RECASED) {
+            spoil::recased(rng, words)
+        } else {
+            spoil::joined(&words)
+        }
+    }
+
+    fn draw_call(&mut self) -> Option<Call> {
+        let whole = self.calls.iter().map(|call| call.weight).sum();
+        let mut ticket = self.draw.rng.below(whole);
+        for call in &self.calls {
+            if ticket < call.weight {
+                return Some(*call);
+            }
+            ticket -= call.weight;
+        }
+        None
+    }
+}
+
+impl Iterator for Lines {
+    type Item = Vec<u8>;
+
+    fn next(&mut self) -> Option<Vec<u8>> {
+        let plan = self.draw.plan.clone();
+        let line = self.draw_line();
+        if self.console.answer(&line) == BAD {
+            // The reading that the line would have started has not begun.
+            self.draw.plan = plan;
+        }
+        self.draw.expected = self.console.reader().expected();
+        Some(line)
+    }
+}
+
+fn call_named(name: &str) -> Result<Call, String> {
+    let found = CALLS.iter().find(|call| call.name == name);
+    found
+        .copied()
+        .ok_or_else(|| format!("no call is named {name:?}"))
+}
+
+#[cfg(test)]
+mod tests {
+    use super::*;
+
+    fn drawn(seed: u64, names: Option<&str>) -> Vec<Vec<u8>> {
+        Lines::new(seed, names).unwrap().take(2000).collect()
+    }
+
+    #[test]
+    fn a_seed_fixes_the_lines() {
+        assert_eq!(drawn(7, None), drawn(7, None));
+        assert_ne!(drawn(7, None), drawn(8, None));
+    }
+
+    #[test]
+    fn no_line_holds_a_line_feed() {
+        assert!(drawn(1, None).iter().all(|line| !line.contains(&b'\n')));
+    }
+
+    #[test]
+    fn most_lines_are_calls() {
+        let mut console = Console::default();
+        let bad = drawn(2, None)
+            .iter()
+            .filter(|line| console.answer(line) == BAD)
+            .count();
+        assert!((200..600).contains(&bad), "{bad} bad lines of 2000");
+    }
+
+    #[test]
+    fn every_call_and_every_reachable_refusal_of_a_block_is_met() {
+        let mut console = Console::default();
+        let lines = drawn(3, Some("read-start,read-turn,read-complete"));
+        let answers: Vec<String> = lines.iter().map(|line| console.answer(line)).collect();
+        for reason in [7, 8, 9, 10, 12, 13, 14, 15, 16] {
+            let reason = reason.to_string();
+            let met = answers
+                .iter()
+                .any(|answer| answer.split(' ').nth(4) == Some(&reason));
+            assert!(met, "reason {reason}");
+        }
+        for whole in ["0", "1", "17", "4 0 0 ", "5 0 0 ", "6 0 0 ", "0 3 "] {
+            assert!(
+                answers.iter().any(|answer| answer.starts_with(whole)),
+                "{whole}"
+            );
+        }
+    }
+
+    #[test]
+    fn unknown_names_are_errors() {
+        assert!(Lines::new(1, Some("schedule,encrypt")).is_ok());
+        assert!(Lines::new(1, Some("schedule,")).is_err());
+    }
+}

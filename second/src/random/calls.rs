@@ -1,0 +1,253 @@
+//! The calls that lines are drawn from. A new call is one row here and the words it takes.
+
+use super::plan::Plan;
+use super::rng::Rng;
+use crate::hex::shown;
+use crate::image::{BLOCK, PAYLOAD};
+
+#[derive(Clone, Copy)]
+pub struct Call {
+    pub name: &'static str,
+    /// How often it is drawn, beside the weights of the others.
+    pub weight: usize,
+    /// Draws the words after the name.
+    pub words: fn(&mut Draw) -> Vec<String>,
+}
+
+const fn call(name: &'static str, weight: usize, words: fn(&mut Draw) -> Vec<String>) -> Call {
+    Call {
+        name,
+        weight,
+        words,
+    }
+}
+
+pub const CALLS: &[Call] = &[
+    call("product", 2, two_bytes),
+    call("schedule", 2, one_key),
+    call("encrypt", 2, key_and_block),
+    call("decrypt", 2, key_and_block),
+    call("ecb-encrypt", 1, ecb_words),
+    call("ecb-decrypt", 1, ecb_words),
+    call("cbc-encrypt", 1, chained_words),
+    call("cbc-decrypt", 1, chained_words),
+    call("cfb-encrypt", 1, chained_words),
+    call("cfb-decrypt", 1, chained_words),
+    call("ofb-encrypt", 1, chained_words),
+    call("ofb-decrypt", 1, chained_words),
+    call("check", 3, key_and_message),
+    call("check-start", 2, one_key),
+    call("check-feed", 5, one_message),
+    call("check-close", 3, no_words),
+    call("write", 3, write_words),
+    call("read-start", 3, start_words),
+    call("read-turn", 6, turn_words),
+    call("read-complete", 2, no_words),
+];
+
+pub struct Draw {
+    pub rng: Rng,
+    /// The image of the reading that was started last.
+    pub plan: Plan,
+    /// The number of the block that the reader expects by now.
+    pub expected: u32,
+}
+
+impl Draw {
+    pub fn new(seed: u64) -> Draw {
+        Draw {
+            rng: Rng::new(seed),
+            plan: Plan::default(),
+            expected: 0,
+        }
+    }
+
+    fn hex(&mut self, length: usize) -> String {
+        shown(&self.rng.bytes(length))
+    }
+
+    fn key(&mut self) -> String {
+        shown(&key(&mut self.rng))
+    }
+
+    fn iv(&mut self, right: usize) -> String {
+        let length = if self.rng.percent(93) {
+            right
+        } else {
+            self.rng.pick([0, 1, 15, 16, 17, 32])
+        };
+        self.hex(length)
+    }
+
+    /// A length that is mostly whole pieces, where only those are taken.
+    fn whole_length(&mut self) -> usize {
+        if self.rng.percent(88) {
+            16 * self.rng.below(7)
+        } else {
+            self.rng.below(100)
+        }
+    }
+
+    fn any_length(&mut self) -> usize {
+        if self.rng.percent(40) {
+            16 * self.rng.below(7)
+        } else {
+            self.rng.below(100)
+        }
+    }
+
+    /// Lent memory: mostly what is needed, sometimes more, sometimes less.
+    fn output(&mut self, needed: usize) -> String {
+        let length = match self.rng.below(10) {
+            0 => needed.saturating_sub(1 + self.rng.below(20)),
+            1 => self.rng.below(needed + 1),
+            2 | 3 => needed + 1 + self.rng.below(40),
+            _ => needed,
+        };
+        self.hex(length)
+    }
+
+    fn numeral(&mut self, number: u64) -> String {
+        let zeros = if self.rng.percent(10) {
+            self.rng.below(30)
+        } else {
+            0
+        };
+        format!("{}{number}", "0".repeat(zeros))
+    }
+}
+
+pub fn key(rng: &mut Rng) -> Vec<u8> {
+    let length = if rng.percent(94) {
+        rng.pick([16, 24, 32])
+    } else {
+        rng.pick([0, 1, 8, 15, 17, 23, 25, 31, 33, 48, 64])
+    };
+    rng.bytes(length)
+}
+
+fn no_words(_: &mut Draw) -> Vec<String> {
+    Vec::new()
+}
+
+fn two_bytes(draw: &mut Draw) -> Vec<String> {
+    vec![draw.hex(1), draw.hex(1)]
+}
+
+fn one_key(draw: &mut Draw) -> Vec<String> {
+    vec![draw.key()]
+}
+
+fn key_and_block(draw: &mut Draw) -> Vec<String> {
+    let length = if draw.rng.percent(97) {
+        16
+    } else {
+        draw.rng.pick([0, 15, 17, 32])
+    };
+    vec![draw.key(), draw.hex(length)]
+}
+
+fn ecb_words(draw: &mut Draw) -> Vec<String> {
+    mode_words(draw, 0)
+}
+
+fn chained_words(draw: &mut Draw) -> Vec<String> {
+    mode_words(draw, 16)
+}
+
+fn mode_words(draw: &mut Draw, iv: usize) -> Vec<String> {
+    let length = draw.whole_length();
+    vec![
+        draw.key(),
+        draw.iv(iv),
+        draw.hex(length),
+        draw.output(length),
+    ]
+}
+
+fn one_message(draw: &mut Draw) -> Vec<String> {
+    let length = draw.any_length();
+    vec![draw.hex(length)]
+}
+
+fn key_and_message(draw: &mut Draw) -> Vec<String> {
+    let length = draw.any_length();
+    vec![draw.key(), draw.hex(length)]
+}
+
+fn write_words(draw: &mut Draw) -> Vec<String> {
+    let count = match draw.rng.below(10) {
+        0 => draw.rng.pick([0, 65_535, 65_536, u32::MAX]),
+        1 => draw.rng.word(),
+        _ => 1 + draw.rng.below(5) as u32,
+    };
+    let last = count.saturating_sub(1);
+    let number = match draw.rng.below(10) {
+        0 => draw.rng.pick([count, u32::MAX, 0]),
+        1..=5 => last,
+        _ => draw.rng.below(count as usize) as u32,
+    };
+    let length = match draw.rng.below(10) {
+        0 => draw.rng.pick([0, 1, 479, 481]),
+        _ if number < last => PAYLOAD,
+        _ => draw.rng.below(PAYLOAD + 1),
+    };
+    let release = draw.rng.word();
+    vec![
+        draw.key(),
+        draw.key(),
+        draw.numeral(number.into()),
+        draw.numeral(count.into()),
+        draw.numeral(release.into()),
+        draw.hex(length),
+        draw.output(BLOCK),
+    ]
+}
+
+fn start_words(draw: &mut Draw) -> Vec<String> {
+    draw.plan = Plan::drawn(&mut draw.rng);
+    vec![
+        shown(&draw.plan.encryption_key),
+        shown(&draw.plan.check_key),
+    ]
+}
+
+fn turn_words(draw: &mut Draw) -> Vec<String> {
+    let lent = blocks_lent(&mut draw.rng);
+    let asked = blocks_asked(&mut draw.rng);
+    let handled = lent.min(usize::try_from(asked).unwrap_or(lent));
+    let blocks = draw.plan.blocks(&mut draw.rng, draw.expected, lent);
+    let blocks = mostly_whole(&mut draw.rng, blocks);
+    vec![
+        draw.numeral(asked),
+        shown(&blocks),
+        draw.output(PAYLOAD * handled),
+    ]
+}
+
+fn blocks_lent(rng: &mut Rng) -> usize {
+    match rng.below(50) {
+        // 33 blocks and their output are what a line can hold.
+        0 => rng.below(34),
+        1..=4 => 0,
+        _ => 1 + rng.below(4),
+    }
+}
+
+fn blocks_asked(rng: &mut Rng) -> u64 {
+    match rng.below(20) {
+        0 => rng.pick([0, 129, u64::MAX]),
+        1 => 128,
+        2..=9 => 1 + rng.below(4) as u64,
+        _ => 1 + rng.below(128) as u64,
+    }
+}
+
+fn mostly_whole(rng: &mut Rng, mut blocks: Vec<u8>) -> Vec<u8> {
+    match rng.below(40) {
+        0 => blocks.truncate(rng.below(blocks.len())),
+        1 => blocks.push(rng.byte()),
+        _ => {}
+    }
+    blocks
+}
