@@ -4,3 +4,4 @@ pub mod Tables
 pub mod Columns
 pub mod Steps
 pub mod Padding
+pub mod Lawful

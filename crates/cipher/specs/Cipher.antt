@@ -6,6 +6,7 @@ use mathlib.Core.List.{List}
 use lib.Dec.{eqb}
 use lib.ListN.{replicate}
 use Rattle.octets.specs.Octets.{choose}
+use Rattle.octets.specs.Blocks.{BlockCipher}
 use Rattle.sbox.specs.Sbox.{sBox, invSBox}
 use Rattle.schedule.specs.Schedule.{scheduleOf}
 use Rattle.schedule.specs.declared.Expanded.{Expanded}
@@ -52,6 +53,14 @@ encryptBlock sub w nr b = choose (roundCount nr) (cipher aes sub w nr b) (replic
 
 unfoldable pub decryptBlock : (ℕ → ℕ) → List ℕ → ℕ → List ℕ → List ℕ
 decryptBlock inv w nr b = choose (roundCount nr) (invCipher aes inv w nr b) (replicate 16 0)
+
+-- the two as one block cipher
+abbrev pub blockCipher : (sub inv : ℕ → ℕ) → List ℕ → ℕ → BlockCipher
+blockCipher sub inv w nr = record { enc = encryptBlock sub w nr; dec = decryptBlock inv w nr }
+
+-- AES under the schedule of a key
+abbrev pub aesOf : List ℕ → BlockCipher
+aesOf key = blockCipher sBox invSBox (scheduleOf sBox key .schedule .words) (scheduleOf sBox key .schedule .rounds)
 
 -- under the schedule of a key: a refused key has 0 rounds, hence zeros
 abbrev pub blockUnder : (List ℕ → ℕ → List ℕ) → Expanded → Ciphered

@@ -1,9 +1,12 @@
 // The calls: the name of each, the form of its line, the call itself and its answer.
 use crate::args;
 use crate::held::Held;
+use crate::moded;
 use crate::print;
 use args::Args;
 use cipher::Ciphered;
+use modes::Mode;
+use modes::Way;
 use schedule::KeyAnswer;
 use schedule::KeySchedule;
 
@@ -12,6 +15,7 @@ pub enum Call {
     Schedule,
     Encrypt,
     Decrypt,
+    Moded(Mode, Way),
     Unknown,
 }
 
@@ -28,7 +32,7 @@ fn named(w: &[u8]) -> Call {
     if check::same(w, b"decrypt") {
         return Call::Decrypt;
     }
-    Call::Unknown
+    moded::named(w)
 }
 
 // The letters of a form are in args.rt. No line has the form of the unknown call, since it asks for no word at all.
@@ -38,6 +42,7 @@ fn form(call: Call) -> [u8; 8] {
         Call::Schedule => *b".x      ",
         Call::Encrypt => *b".xb     ",
         Call::Decrypt => *b".xb     ",
+        Call::Moded(_, _) => *b".xxxo   ",
         Call::Unknown => *b"        ",
     }
 }
@@ -55,6 +60,7 @@ pub fn answer(held: Held, line: &[u8], ins: &mut [u8], outs: &mut [u8], text: &m
         Call::Schedule => held.at(expand(ins, a, text, at)),
         Call::Encrypt => held.at(encrypt(ins, a, text, at)),
         Call::Decrypt => held.at(decrypt(ins, a, text, at)),
+        Call::Moded(mode, way) => held.at(moded::answer(mode, way, ins, a, outs, text, at)),
         Call::Unknown => held,
     }
 }

@@ -2,6 +2,7 @@
 mod args;
 mod calls;
 mod held;
+mod moded;
 mod print;
 
 use held::Held;

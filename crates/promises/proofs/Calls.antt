@@ -1,10 +1,17 @@
--- Demand 1 for the cipher: every public call asks nothing of its caller, and any two outcomes that its contract allows agree.
--- No call below is lent memory to write, so none has anything to keep. Assumes nothing.
+-- Demand 1 for the cipher and its blocks: every public call asks nothing of its caller, and any two outcomes that its contract
+-- allows agree; the one that is lent memory to write leaves it as it was where the block has no room. Assumes nothing.
 use mathlib.Core.Path.{_≡_, sym, _∙_}
+use mathlib.Core.Bool.{false}
+use denote.Ref.{now}
+use lib.ListN.{length}
+use Rattle.blocks.specs.Blocks.{fits, blockPut}
 use Rattle.field.proofs.double.Reads as double
 use Rattle.field.proofs.product.Reads as product
 use Rattle.sbox.proofs.table.Reads as table
 use Rattle.sbox.proofs.inv_table.Reads as inv-table
+use Rattle.blocks.proofs.load.Reads as load
+use Rattle.blocks.proofs.store.Reads as store
+use Rattle.blocks.proofs.xor.Reads as xor
 use Rattle.words.proofs.join.Reads as join
 use Rattle.words.proofs.rot_word.Reads as rot-word
 use Rattle.words.proofs.substitute.Reads as substitute
@@ -106,3 +113,25 @@ decrypt-block-asks-nothing κs a = tt
 
 pub decrypt-block-determined : (κs : _) (a : _) (r r′ : _) (s s′ : _) → decrypt-block.Post κs a r s → decrypt-block.Post κs a r′ s′ → r ≡ r′
 decrypt-block-determined κs a r r′ s s′ p q = p ∙ sym q
+
+pub load-asks-nothing : (κs : _) (a : _) → load.Asked κs a
+load-asks-nothing κs a = tt
+
+pub load-determined : (κs : _) (a : _) (r r′ : _) (s s′ : _) → load.Post κs a r s → load.Post κs a r′ s′ → r ≡ r′
+load-determined κs a r r′ s s′ p q = p ∙ sym q
+
+pub xor-asks-nothing : (κs : _) (a : _) → xor.Asked κs a
+xor-asks-nothing κs a = tt
+
+pub xor-determined : (κs : _) (a : _) (r r′ : _) (s s′ : _) → xor.Post κs a r s → xor.Post κs a r′ s′ → r ≡ r′
+xor-determined κs a r r′ s s′ p q = p ∙ sym q
+
+pub store-asks-nothing : (κs : _) (a : _) → store.Asked κs a
+store-asks-nothing κs a = tt
+
+pub store-determined : (κs : _) (a : _) (r r′ : _) (s s′ : _) → store.Post κs a r s → store.Post κs a r′ s′ → now (s .0) ≡ now (s′ .0)
+store-determined κs a r r′ s s′ p q = p ∙ sym q
+
+pub store-refused-keeps : (κs : _) (a : _) (r : _) (s : _) → store.Post κs a r s → fits (length (now (a .0))) (a .1 .0) ≡ false → now (s .0) ≡ now (a .0)
+unfolding blockPut
+store-refused-keeps κs a r s p e = p ∙ rw e

@@ -9,7 +9,6 @@ use borrow.Author.Tests.{eq-eqb, ne-eqb}
 use lib.ListN.{length, replicate}
 use Rattle.octets.specs.Octets.{Octets, padTo}
 use Rattle.sbox.specs.Sbox.{sBox, invSBox}
-use Rattle.sbox.proofs.Laws.{sBox-lt, invSBox-lt, invSBox-sBox, sBox-invSBox}
 use Rattle.schedule.specs.Schedule.{keyExpansion, taken, refused, scheduleOf, keyNumber}
 use Rattle.schedule.specs.declared.Expanded.{Expanded}
 use Rattle.schedule.specs.declared.KeyAnswer.the-variants.{Taken, KeyLength}
@@ -17,7 +16,8 @@ use Rattle.cipher.specs.State.{aes}
 use Rattle.cipher.specs.Cipher.{cipher, invCipher, roundCount, encryptBlock, decryptBlock, encryptUnder, decryptUnder}
 use Rattle.cipher.specs.declared.Ciphered.{Ciphered}
 use Rattle.cipher.proofs.State.{aes-regular}
-use Rattle.cipher.proofs.Undo.{Inverse, decipher-cipher, cipher-decipher}
+use Rattle.cipher.proofs.Undo.{decipher-cipher, cipher-decipher}
+use Rattle.cipher.proofs.Lawful.{sBox-inverse}
 use Rattle.cipher.proofs.Padding.{cipher-padded, inv-cipher-padded}
 use Rattle.schedule.proofs.KeySchedule.new.Reads as new
 use Rattle.cipher.proofs.encrypt.Reads as encrypt
@@ -129,9 +129,6 @@ decrypt-refuses κs a r s p h =
     (ap (λ (x : Ciphered). keyNumber (x .answer)) t, ap (λ (x : Ciphered). x .block) t)
 
 -- ---- demand 3: decrypting undoes encrypting, and encrypting undoes decrypting
-
-pub sBox-inverse : Inverse sBox invSBox
-sBox-inverse = record { sub-lt = sBox-lt; inv-lt = invSBox-lt; inv-sub = invSBox-sBox; sub-inv = sBox-invSBox }
 
 -- of the cipher, under any schedule and any number of rounds (for any number of columns: `decipher-cipher` of the cipher's own proofs)
 pub decrypting-undoes-encrypting : (w : List ℕ) (nr : ℕ) (b : List ℕ) → Octets 16 b → invCipher aes invSBox w nr (cipher aes sBox w nr b) ≡ b

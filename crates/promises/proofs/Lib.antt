@@ -1,4 +1,5 @@
 pub mod HandCases
 pub mod Calls
 pub mod Cipher
+pub mod Modes
 pub mod Text

@@ -1,0 +1,40 @@
+-- What an answer says: that every test before it passed; a refusal leaves the output as it was. Assumes nothing.
+use mathlib.Core.Path.{_≡_, refl}
+use mathlib.Core.Bool.{Bool, true, false}
+use mathlib.Core.List.{List}
+use Prim.Native.Nat.{ℕ, _%_, _≤_}
+use native.Mathlib.Omega.{arith}
+use borrow.Author.Tests.{eqb-true, ltb-false}
+use lib.Dec.{eqb, ltb}
+use Rattle.octets.specs.Octets.{choose}
+use Rattle.modes.specs.Modes.{ruled, modeNumber, modeOutput}
+use Rattle.modes.specs.declared.Mode.{Mode}
+use Rattle.modes.specs.declared.Way.{Way}
+use Rattle.modes.specs.declared.ModeAnswer.{ModeAnswer}
+use Rattle.modes.specs.declared.ModeAnswer.the-variants.{Done, BadKey, BadIv, NotPieces, OutputShort}
+
+pub record Met (key wanted iv inp out : ℕ) : Type 0 where
+  pub key-taken : key ≡ 0
+  pub iv-right : iv ≡ wanted
+  pub pieces : inp % 16 ≡ 0
+  pub room : inp ≤ out
+
+chosen : (a b c d : Bool) → choose a (choose b (choose c (choose d OutputShort Done) NotPieces) BadIv) BadKey ≡ Done → (a ≡ true) × (b ≡ true) × (c ≡ true) × (d ≡ false)
+chosen true true true false h = (refl, refl, refl, refl)
+chosen true true true true h = absurd (let z : _≡_ {A = ℕ} 0 1 = cc in omega arith)
+chosen true true false d h = absurd (let z : _≡_ {A = ℕ} 0 1 = cc in omega arith)
+chosen true false c d h = absurd (let z : _≡_ {A = ℕ} 0 1 = cc in omega arith)
+chosen false b c d h = absurd (let z : _≡_ {A = ℕ} 0 1 = cc in omega arith)
+
+pub met : (key wanted iv inp out : ℕ) → ruled key wanted iv inp out ≡ Done → Met key wanted iv inp out
+unfolding ruled
+met key wanted iv inp out h =
+    let t = chosen (eqb key 0) (eqb iv wanted) (eqb (inp % 16) 0) (ltb out inp) h in
+    record { key-taken = eqb-true _ _ (t .0); iv-right = eqb-true _ _ (t .1); pieces = eqb-true _ _ (t .2); room = ltb-false _ _ (t .3) }
+
+pub kept : (a : ModeAnswer) (m : Mode) (w : Way) (key iv inp out : List ℕ) → (modeNumber a ≡ 0 → ⊥) → modeOutput a m w key iv inp out ≡ out
+kept Done m w key iv inp out h = absurd (h refl)
+kept BadKey m w key iv inp out h = refl
+kept BadIv m w key iv inp out h = refl
+kept NotPieces m w key iv inp out h = refl
+kept OutputShort m w key iv inp out h = refl

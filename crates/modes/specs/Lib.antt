@@ -1,0 +1,4 @@
+pub mod Pieces
+pub mod Modes
+pub mod Steps
+pub mod Equations
