@@ -1,5 +1,6 @@
 // The calls: the name of each, the form of its line, the call itself and its answer.
 use crate::args;
+use crate::checked;
 use crate::held::Held;
 use crate::moded;
 use crate::print;
@@ -16,6 +17,10 @@ pub enum Call {
     Encrypt,
     Decrypt,
     Moded(Mode, Way),
+    Check,
+    CheckStart,
+    CheckFeed,
+    CheckClose,
     Unknown,
 }
 
@@ -32,7 +37,11 @@ fn named(w: &[u8]) -> Call {
     if check::same(w, b"decrypt") {
         return Call::Decrypt;
     }
-    moded::named(w)
+    let call = moded::named(w);
+    let Call::Unknown = call else {
+        return call;
+    };
+    checked::named(w)
 }
 
 // The letters of a form are in args.rt. No line has the form of the unknown call, since it asks for no word at all.
@@ -43,6 +52,10 @@ fn form(call: Call) -> [u8; 8] {
         Call::Encrypt => *b".xb     ",
         Call::Decrypt => *b".xb     ",
         Call::Moded(_, _) => *b".xxxo   ",
+        Call::Check => *b".xx     ",
+        Call::CheckStart => *b".x      ",
+        Call::CheckFeed => *b".x      ",
+        Call::CheckClose => *b".       ",
         Call::Unknown => *b"        ",
     }
 }
@@ -61,11 +74,15 @@ pub fn answer(held: Held, line: &[u8], ins: &mut [u8], outs: &mut [u8], text: &m
         Call::Encrypt => held.at(encrypt(ins, a, text, at)),
         Call::Decrypt => held.at(decrypt(ins, a, text, at)),
         Call::Moded(mode, way) => held.at(moded::answer(mode, way, ins, a, outs, text, at)),
+        Call::Check => held.at(checked::whole(ins, a, text, at)),
+        Call::CheckStart => checked::start(held, ins, a, text, at),
+        Call::CheckFeed => checked::feed(held, ins, a, text, at),
+        Call::CheckClose => held.at(checked::close(held, text, at)),
         Call::Unknown => held,
     }
 }
 
-fn key_number(k: KeyAnswer) -> u64 {
+pub fn key_number(k: KeyAnswer) -> u64 {
     match k {
         KeyAnswer::Taken => 0,
         KeyAnswer::KeyLength => 1,

@@ -1,6 +1,7 @@
 // Reads lines on standard input and answers each with one line on standard output.
 mod args;
 mod calls;
+mod checked;
 mod held;
 mod moded;
 mod print;

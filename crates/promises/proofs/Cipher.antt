@@ -38,7 +38,7 @@ pub record NoKeySize (n : ℕ) : Type 0 where
 -- ---- which schedule a key has
 
 module _ (key : List ℕ) where
-  sized : {n nk nr : ℕ} → KeySize n nk nr → length key ≡ n → scheduleOf sBox key ≡ taken sBox key nk nr
+  pub sized : {n nk nr : ℕ} → KeySize n nk nr → length key ≡ n → scheduleOf sBox key ≡ taken sBox key nk nr
   unfolding scheduleOf
   sized aes-128 e = rw (eq-eqb (length key) 16 e)
   sized aes-192 e =
@@ -49,11 +49,11 @@ module _ (key : List ℕ) where
       let b : length key ≡ 24 → ⊥ = λ h. omega arith in
       rw (ne-eqb (length key) 16 a, ne-eqb (length key) 24 b, eq-eqb (length key) 32 e)
 
-  unsized : NoKeySize (length key) → scheduleOf sBox key ≡ refused
+  pub unsized : NoKeySize (length key) → scheduleOf sBox key ≡ refused
   unfolding scheduleOf
   unsized h = rw (ne-eqb (length key) 16 (h .not-16), ne-eqb (length key) 24 (h .not-24), ne-eqb (length key) 32 (h .not-32))
 
-known-rounds : {n nk nr : ℕ} → KeySize n nk nr → roundCount nr ≡ true
+pub known-rounds : {n nk nr : ℕ} → KeySize n nk nr → roundCount nr ≡ true
 known-rounds aes-128 = refl
 known-rounds aes-192 = refl
 known-rounds aes-256 = refl

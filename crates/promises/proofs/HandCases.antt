@@ -11,6 +11,7 @@ use Rattle.sbox.specs.Sbox.{square, powerWithin, inverse, bit, fromBits, affine
 use Rattle.words.specs.Columns.{rotWord, diagonal, row}
 use Rattle.schedule.specs.Schedule.{rCon, keyWord, temp, nextWord}
 use Rattle.cipher.specs.State.{aes, at, state, shiftRows, mixColumns, invMixColumns}
+use Rattle.cmac.specs.Cmac.{shifted, doubled}
 
 -- what a definition gives, and what the document has
 pub record Case : Type 0 where
@@ -45,8 +46,10 @@ hand-cases a =
     ∷ gives (firstColumn (mixColumns aes (asColumn (0xc9 ∷ 0xc5 ∷ 0x63 ∷ 0x23 ∷ [])))) (0x9d ∷ 0xde ∷ 0xaf ∷ 0xa0 ∷ [])
     ∷ gives (firstColumn (invMixColumns aes (asColumn (0x9d ∷ 0xde ∷ 0xaf ∷ 0xa0 ∷ [])))) (0xc9 ∷ 0xc5 ∷ 0x63 ∷ 0x23 ∷ [])
     ∷ gives (rowOne (shiftRows aes (asRow (0x6e ∷ 0x63 ∷ 0x96 ∷ 0x48 ∷ [])))) (0x63 ∷ 0x96 ∷ 0x48 ∷ 0x6e ∷ [])
+    ∷ gives (doubled (0x80 ∷ replicate 15 0x00)) (replicate 15 0x00 ++ (0x87 ∷ []))
+    ∷ gives (doubled (replicate 15 0x00 ++ (0x01 ∷ []))) (replicate 15 0x00 ++ (0x02 ∷ []))
     ∷ []
 
 pub hand-cases-hold : (a : ℕ) → map (λ (c : Case). c .given) (hand-cases a) ≡ map (λ (c : Case). c .wanted) (hand-cases a)
-unfolding hand-cases xor word xTimes xPower productWithin _•_ square powerWithin inverse bit fromBits affine invAffine sBox invSBox rotWord diagonal row rCon keyWord temp nextWord shiftRows mixColumns invMixColumns
+unfolding hand-cases xor word xTimes xPower productWithin _•_ square powerWithin inverse bit fromBits affine invAffine sBox invSBox rotWord diagonal row rCon keyWord temp nextWord shiftRows mixColumns invMixColumns shifted doubled
 hand-cases-hold a = refl

@@ -1,0 +1,5 @@
+pub mod Chain
+pub mod Filling
+pub mod OnePiece
+pub mod Under
+pub mod Parts
