@@ -27,11 +27,11 @@ state z f = tabulate (4 * z .columns) (λ k. f (k % 4) (k / 4))
 unfoldable pub subBytes : (ℕ → ℕ) → List ℕ → List ℕ
 subBytes sub s = map sub s
 
--- SHIFTROWS (5.5): s'[r, c] = s[r, (c + shift r) mod Nb]
+-- SHIFTROWS (5.1.2): s'[r, c] = s[r, (c + shift r) mod Nb]
 unfoldable pub shiftRows : Shape → List ℕ → List ℕ
 shiftRows z s = state z (λ r c. at s r ((c + z .shift r) % z .columns))
 
--- INVSHIFTROWS (5.13): s'[r, c] = s[r, (c - shift r) mod Nb]
+-- INVSHIFTROWS (5.3.1): s'[r, c] = s[r, (c - shift r) mod Nb]
 unfoldable pub invShiftRows : Shape → List ℕ → List ℕ
 invShiftRows z s = state z (λ r c. at s r ((c + (z .columns - z .shift r)) % z .columns))
 
@@ -39,14 +39,14 @@ invShiftRows z s = state z (λ r c. at s r ((c + (z .columns - z .shift r)) % z 
 abbrev pub mixAt : (ℕ → ℕ → ℕ → ℕ → ℕ) → List ℕ → ℕ → ℕ → ℕ
 mixAt first s r c = first (at s r c) (at s ((r + 1) % 4) c) (at s ((r + 2) % 4) c) (at s ((r + 3) % 4) c)
 
--- MIXCOLUMNS (5.8)
+-- MIXCOLUMNS (5.1.3)
 unfoldable pub mixColumns : Shape → List ℕ → List ℕ
 mixColumns z s = state z (mixAt mixRow s)
 
--- INVMIXCOLUMNS (5.15)
+-- INVMIXCOLUMNS (5.3.3)
 unfoldable pub invMixColumns : Shape → List ℕ → List ℕ
 invMixColumns z s = state z (mixAt invMixRow s)
 
--- ADDROUNDKEY (5.9): column c is added to word Nb n + c of the schedule w
+-- ADDROUNDKEY (5.1.4): column c is added to word Nb n + c of the schedule w
 unfoldable pub addRoundKey : Shape → List ℕ → ℕ → List ℕ → List ℕ
 addRoundKey z w n s = state z (λ r c. xor (at s r c) (byte r (getD w (z .columns * n + c) 0)))

@@ -32,7 +32,7 @@ unfoldable pub fromBits : ℕ → (ℕ → ℕ) → ℕ
 fromBits zero f = 0
 fromBits (suc n) f = fromBits n f + f n * 2 ^ n
 
--- (5.2): bit i is bits i, i + 4, i + 5, i + 6, i + 7 of x and bit i of 63, added modulo 2
+-- the affine map (5.1.1): bit i is bits i, i + 4, i + 5, i + 6, i + 7 of x and bit i of 63, added modulo 2
 unfoldable pub affine : ℕ → ℕ
 affine x = fromBits 8 (λ i. (bit x i + bit x (i + 4) + bit x (i + 5) + bit x (i + 6) + bit x (i + 7) + bit 0x63 i) % 2)
 

@@ -6,7 +6,7 @@ use Rattle.octets.specs.Octets.{xor}
 use Rattle.octets.specs.Words.{word, byte}
 use Rattle.field.specs.Field.{xTimes, _•_}
 
--- ROTWORD (5.10): [a0, a1, a2, a3] becomes [a1, a2, a3, a0]
+-- ROTWORD (5.2): [a0, a1, a2, a3] becomes [a1, a2, a3, a0]
 unfoldable pub rotWord : ℕ → ℕ
 rotWord x = word (byte 1 x) (byte 2 x) (byte 3 x) (byte 0 x)
 
@@ -29,7 +29,7 @@ pub record IsDiagonal (sub : ℕ → ℕ) (a b c d r : ℕ) : Type 0 where
   pub third : byte 2 r ≡ sub (byte 2 c)
   pub fourth : byte 3 r ≡ sub (byte 3 d)
 
--- SUBWORD (5.11): each of the four bytes substituted
+-- SUBWORD (5.2): each of the four bytes substituted
 abbrev pub subWord : (ℕ → ℕ) → ℕ → ℕ
 subWord sub x = diagonal sub x x x x
 
@@ -41,7 +41,7 @@ doubled x = word (xTimes (byte 0 x)) (xTimes (byte 1 x)) (xTimes (byte 2 x)) (xT
 unfoldable pub row : ℕ → ℕ → ℕ → ℕ → ℕ → ℕ → ℕ → ℕ → ℕ
 row p q u v a b c d = xor (xor (a • p) (b • q)) (xor (c • u) (d • v))
 
--- the first row of MIXCOLUMNS' matrix (5.7), and of INVMIXCOLUMNS' (5.14); each next row is the one before turned right by one
+-- the first row of the matrix of MIXCOLUMNS (5.1.3), and of that of INVMIXCOLUMNS (5.3.3); each next row is the one before turned right by one
 abbrev pub mixRow : ℕ → ℕ → ℕ → ℕ → ℕ
 mixRow = row 0x02 0x03 0x01 0x01
 
