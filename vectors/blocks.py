@@ -115,7 +115,7 @@ def refusals(book):
 
 def either_case(book):
     """Hex digits of either case on input, lower case in the answer."""
-    book.group("upper and mixed case on input, lower case in the answer", "console.md; vectors of FIPS 197 4.2 and C.1")
+    book.group("upper and mixed case on input, lower case in the answer", "docs/CONSOLE.md; vectors of FIPS 197 4.2 and C.1")
     book.add("product 57 13", "0 fe")
     book.add("product 6B 02", "0 d6")
     book.add("product 6b 02", "0 d6")
@@ -126,12 +126,12 @@ def either_case(book):
 
 def bad_words(book):
     """First words that are none, and wrong numbers of words."""
-    book.group("bad lines: unknown first word", "console.md")
+    book.group("bad lines: unknown first word", "docs/CONSOLE.md")
     for word in ("encrpyt", "Encrypt", "ENCRYPT", "encrypt2", "encryp", "help", "-", "?", "0", "#"):
         book.bad("%s %s %s" % (word, KEY, BLOCK))
     book.bad("help")
     book.bad("?")
-    book.group("bad lines: a wrong number of words", "console.md")
+    book.group("bad lines: a wrong number of words", "docs/CONSOLE.md")
     for line in ("product", "product 57", "product 57 13 00", "schedule", "schedule %s %s" % (KEY, KEY),
                  "schedule %s -" % KEY, "encrypt", "encrypt " + KEY, "encrypt %s %s %s" % (KEY, BLOCK, BLOCK),
                  "encrypt %s %s -" % (KEY, BLOCK), "decrypt", "decrypt " + KEY,
@@ -141,12 +141,12 @@ def bad_words(book):
 
 def bad_hex(book):
     """Odd numbers of digits, and characters that are no digits."""
-    book.group("bad lines: an odd number of digits", "console.md")
+    book.group("bad lines: an odd number of digits", "docs/CONSOLE.md")
     for line in ("product 5 13", "product 57 1", "product 057 13", "schedule 0", "schedule " + KEY[1:],
                  "schedule %s0" % KEY, "encrypt %s %s" % (KEY[1:], BLOCK), "encrypt %s %s" % (KEY, BLOCK[1:]),
                  "decrypt %s0 %s" % (KEY, SEALED), "decrypt %s %s0" % (KEY, SEALED)):
         book.bad(line)
-    book.group("bad lines: a character that is no hex digit", "console.md")
+    book.group("bad lines: a character that is no hex digit", "docs/CONSOLE.md")
     for line in ("product 5g 13", "product 57 G3", "product 0x57 0x13", "product +7 13", "product 57 -3",
                  "product 57 :0", "product 57 /0", "product 57 @0", "product 57 `0", "schedule " + KEY[:-1] + "g",
                  "schedule --", "schedule -%s" % KEY, "schedule %s-" % KEY, "encrypt %s z%s" % (KEY, BLOCK[1:]),
@@ -156,26 +156,26 @@ def bad_hex(book):
 
 def bad_sizes(book):
     """Blocks that are not 16 bytes and factors that are not one."""
-    book.group("bad lines: a block that is not 16 bytes, under a good key and under a key of wrong size", "console.md")
+    book.group("bad lines: a block that is not 16 bytes, under a good key and under a key of wrong size", "docs/CONSOLE.md")
     for key in (KEY, "-", KEY[2:]):
         for size in (0, 1, 15, 17, 32):
             book.bad("encrypt %s %s" % (key, h(counting(size))))
             book.bad("decrypt %s %s" % (key, h(counting(size))))
-    book.group("bad lines: a factor that is not one byte", "console.md (the line's form is two bytes)")
+    book.group("bad lines: a factor that is not one byte", "docs/CONSOLE.md (the line's form is two bytes)")
     for line in ("product - 13", "product 57 -", "product - -", "product 5713 02", "product 57 0213"):
         book.bad(line)
 
 
 def bad_spaces(book):
     """Spaces too many, and bytes that are neither words nor single spaces."""
-    book.group("bad lines: two spaces, a space in front or behind, the empty line, spaces alone", "console.md")
+    book.group("bad lines: two spaces, a space in front or behind, the empty line, spaces alone", "docs/CONSOLE.md")
     for line in ("product  57 13", "product 57  13", " product 57 13", "product 57 13 ", "product 57 13  ",
                  "schedule %s " % KEY, " schedule " + KEY, "schedule  " + KEY, "schedule ",
                  "encrypt %s  %s" % (KEY, BLOCK), "encrypt %s %s " % (KEY, BLOCK), "encrypt %s " % KEY,
                  " decrypt %s %s" % (KEY, SEALED), "", " ", "  ", ""):
         book.bad(line)
     book.group("bad lines: any other byte (carriage return, tab, vertical tab, NUL, 7f, 80, a0, ff, a UTF-8 letter)",
-               "console.md")
+               "docs/CONSOLE.md")
     for byte in ("\r", "\t", "\v", "\0", "\x7f", "\x80", "\xa0", "\xff", "\xc3\xa9"):
         book.bad("product 57 13" + byte)
         book.bad(byte + "product 57 13")
@@ -186,7 +186,7 @@ def bad_spaces(book):
 
 def bad_numbers(book):
     """Numbers that do not fit, or are not decimal digits alone; good or bad in the rest, the answer is one."""
-    book.group("bad lines: a number that does not fit 32 bits (`write`) or 64 bits (`read-turn`)", "console.md")
+    book.group("bad lines: a number that does not fit 32 bits (`write`) or 64 bits (`read-turn`)", "docs/CONSOLE.md")
     write = "write %s %s %%s %%s %%s - -" % (KEY, KEY)
     for big in ("4294967296", "18446744073709551616", "99999999999999999999999999", "0000004294967296"):
         book.bad(write % (big, "1", "0"))
@@ -194,7 +194,7 @@ def bad_numbers(book):
         book.bad(write % ("0", "1", big))
     for big in ("18446744073709551616", "36893488147419103233", "100000000000000000000", "00018446744073709551616"):
         book.bad("read-turn %s - -" % big)
-    book.group("bad lines: a number that is not decimal digits alone", "console.md")
+    book.group("bad lines: a number that is not decimal digits alone", "docs/CONSOLE.md")
     for word in ("-", "+1", "-1", "0x1", "1a", "a", "1.0", "1,0", "1_0"):
         book.bad(write % (word, "1", "0"))
         book.bad("read-turn %s - -" % word)
@@ -203,10 +203,10 @@ def bad_numbers(book):
 def long_lines(book):
     """Lines at the bound of 65,536 bytes."""
     book.group("line of 65,535 bytes (a key of 32,763 bytes): read, and refused by 1",
-               "console.md; document 01, refusal 1")
+               "docs/CONSOLE.md; document 01, refusal 1")
     book.add("schedule " + "00" * 32763, "1 " + "0" * 480)
     book.group("bad lines: 65,536 bytes with an odd number of digits; longer than 65,536 bytes (65,537, 65,538, "
-               "65,600, 131,072, 131,073 and 200,013 bytes)", "console.md")
+               "65,600, 131,072, 131,073 and 200,013 bytes)", "docs/CONSOLE.md")
     book.bad("schedule " + "0" * 65527)
     book.bad("schedule " + "0" * 65528)
     book.bad("schedule " + "0" * 65529)
@@ -219,7 +219,7 @@ def long_lines(book):
 def last_lines(book):
     """After all bad lines the console still answers, and a last line needs no line feed."""
     book.group("the console goes on after bad lines; the last line has no line feed",
-               "FIPS 197 4.2 and C.1; console.md")
+               "FIPS 197 4.2 and C.1; docs/CONSOLE.md")
     both_ways(book, KEY, BLOCK, SEALED)
     book.add("product 57 83", "0 c1")
 
@@ -229,7 +229,7 @@ def main(root, folder):
     book = Book("Lines for product, schedule, encrypt and decrypt")
     book.remark("Made by blocks.py from the packages golang-1.19-src 1.19.8-2 and python3-cryptography-vectors "
                 "38.0.4-1 (Debian 12). No answer comes from running a cipher: all are copied from the named source "
-                "or follow from the rules of document 01 and console.md.")
+                "or follow from the rules of document 01 and docs/CONSOLE.md.")
     book.remark("Source document 002: the run agrees with the standard, all 44 words (table 10), plaintext and "
                 "ciphertext. Source document 001: plaintext, key and ciphertext of table 23 agree. Its round keys "
                 "agree but for word 32 (table 23: 9fef4dd8; table 24: 99ef4dd8, which agrees) and word 37 (table 23: "

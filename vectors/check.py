@@ -67,7 +67,7 @@ def examples(root, size):
 def before_any_start(book):
     """The zero record: feeding is accepted and the check is zeros."""
     book.group("before any start: the zero record, fed and closed",
-               "console.md (zero record) with readings.md, point 10 (its check is zeros)")
+               "docs/CONSOLE.md (zero record) with readings.md, point 10 (its check is zeros)")
     book.add("check-close", ZERO_CHECK)
     book.add("check-feed 00", "0")
     book.add("check-feed -", "0")
@@ -111,7 +111,7 @@ def prefixes(book, four, size):
 
 def held_record(book, root):
     """What changes the record that is held, and what does not."""
-    name = "SP 800-38B appendix D, same files; console.md"
+    name = "SP 800-38B appendix D, same files; docs/CONSOLE.md"
     small, large = examples(root, 128), examples(root, 256)
     book.group("a start drops what was fed before", name)
     start(book, small[3][0])
@@ -167,7 +167,7 @@ def refusals(book, root):
     for size in WRONG_KEY_SIZES:
         book.add("check-start " + h(counting(size)), "1")
     book.group("after a refused start, one in the middle of feeding too: the zero record, whose check is zeros",
-               "console.md with readings.md, point 10")
+               "docs/CONSOLE.md with readings.md, point 10")
     for size in WRONG_KEY_SIZES:
         start(book, key)
         feed(book, [message[:30]])
@@ -182,7 +182,7 @@ def refusals(book, root):
 def bad_lines(book, root):
     """Lines outside the form."""
     key = h(KEY)
-    book.group("bad lines for `check`, `check-start`, `check-feed` and `check-close`", "console.md")
+    book.group("bad lines for `check`, `check-start`, `check-feed` and `check-close`", "docs/CONSOLE.md")
     for text in ("check", "check " + key, "check %s 00 00" % key, "check %s 0" % key, "check %s0 00" % key,
                  "check %s 0x" % key, "check %s  00" % key, "check %s 00 " % key, " check %s 00" % key,
                  "check %s 00\r" % key, "Check %s 00" % key, "check- %s" % key, "check-start", "check-start ",
@@ -194,10 +194,10 @@ def bad_lines(book, root):
                  "check-clos", "check-feeds 00", "check start " + key):
         book.bad(text)
     book.group("a line of exactly 65,536 bytes (a key of 32,762 bytes): read, and refused by 1",
-               "console.md; document 01, refusal 1")
+               "docs/CONSOLE.md; document 01, refusal 1")
     book.add("check-start " + "00" * 32762, "1")
     book.group("lines longer than 65,536 bytes (65,537, 65,538 and 65,537) are bad and change nothing held",
-               "console.md; SP 800-38B appendix D, same files")
+               "docs/CONSOLE.md; SP 800-38B appendix D, same files")
     good, message, check = examples(root, 192)[2]
     start(book, good)
     feed(book, [message[:17]])
@@ -214,7 +214,7 @@ def main(root, folder):
     book.remark("Made by check.py from the packages python3-cryptography-vectors 38.0.4-1 and "
                 "golang-github-jacobsa-crypto-dev 0.0~git20190317.9f44e2d+dfsg1-4 (Debian 12). No answer comes from "
                 "running a cipher of this project: all are copied from the named source or follow from the rules of "
-                "document 01, console.md and readings.md.")
+                "document 01, docs/CONSOLE.md and readings.md.")
     book.remark("python3-cryptography-vectors holds none of NIST's CAVS files for CMAC, only the examples of SP "
                 "800-38B. Message lengths that these lack come from the list made by RFC 4493's reference program; "
                 "they are published test data, but not a standard's own, and AES-128 only.")

@@ -173,7 +173,7 @@ def order_3_4(book, modes, what):
 def bad_lines(book):
     """Lines outside the form, for each of the eight words."""
     book.group("bad lines: words missing or too many, odd digits, no digits, two spaces, a space or a carriage return "
-               "behind, upper case in the first word", "console.md")
+               "behind, upper case in the first word", "docs/CONSOLE.md")
     key, piece, out = h(KEY), h(counting(16)), h(filler(16))
     for mode, way in every_mode():
         word, iv = "%s-%s" % (mode, way), h(right_iv(mode))
@@ -192,9 +192,9 @@ def long_lines(book, root):
     mode, _, key, iv, plain, cipher = sp800_38a(root)[0]
     at_bound, past_bound = filler(32728), filler(32729)
     book.group("a line of exactly 65,536 bytes: read, the long output stays past the first 16 bytes",
-               "SP 800-38A F.1.1, same file; console.md")
+               "SP 800-38A F.1.1, same file; docs/CONSOLE.md")
     done(book, mode, "encrypt", key, iv, plain[:16], cipher[:16], at_bound)
-    book.group("bad lines: 65,537 and 65,538 bytes", "console.md")
+    book.group("bad lines: 65,537 and 65,538 bytes", "docs/CONSOLE.md")
     book.bad(line(mode, "encrypt", key, iv, b"", filler(32744)))
     book.bad(line(mode, "encrypt", key, iv, plain[:16], past_bound))
 
@@ -204,7 +204,7 @@ def main(root, folder):
     book = Book("Lines for the modes ECB, CBC, CFB and OFB")
     book.remark("Made by modes.py from the packages libcrypto++-utils 8.7.0+git220824-1 and "
                 "python3-cryptography-vectors 38.0.4-1 (Debian 12). No answer comes from running a cipher: all are "
-                "copied from the named source or follow from the rules of document 01 and console.md.")
+                "copied from the named source or follow from the rules of document 01 and docs/CONSOLE.md.")
     book.remark("SP 800-38A prints each example both ways with the same values. Crypto++ quotes the encryptions; the "
                 "decryptions are the same values changed over.")
     book.remark("Document 02's E1 takes refusal 3 from OFB: the two groups that say so in the table hold until then. "
