@@ -12,6 +12,9 @@ use calls::{Call, Draw, CALLS};
 const SPOILED: usize = 20;
 const RECASED: usize = 25;
 
+/// How many of a hundred times a reading that is over is followed by a new one.
+const STARTED_ANEW: usize = 40;
+
 /// One line in this many is made about as long as a line may be.
 const STRETCHED: usize = 250;
 
@@ -55,6 +58,13 @@ impl Lines {
     }
 
     fn draw_call(&mut self) -> Option<Call> {
+        let over = self.console.reader().complete().is_ok();
+        if over && self.draw.rng.percent(STARTED_ANEW) {
+            let start = self.calls.iter().find(|call| call.name == "read-start");
+            if let Some(start) = start {
+                return Some(*start);
+            }
+        }
         let whole = self.calls.iter().map(|call| call.weight).sum();
         let mut ticket = self.draw.rng.below(whole);
         for call in &self.calls {

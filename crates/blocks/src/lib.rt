@@ -1,10 +1,10 @@
-// Blocks of 16 bytes by value: out of a slice, into a slice, and their sum.
+// Blocks of 16 bytes by value: out of a slice, into a slice, their sum, and whether two are the same.
 ghost use mathlib.Core.Path.{_≡_};
 ghost use Prim.Native.Nat.{_+_, _≤_};
 ghost use lib.ListN.{length, take, drop};
 ghost use lib.Seq.{paste};
 ghost use Rattle.octets.specs.Blocks.{_⊕_};
-ghost use Rattle.blocks.specs.Blocks.{fits, blockAt, blockPut};
+ghost use Rattle.blocks.specs.Blocks.{fits, blockAt, blockPut, same};
 
 // The 16 bytes of s from a place on; zeros where s ends before.
 pub fn load(s: &[u8], at: usize) -> [u8; 16]
@@ -33,6 +33,18 @@ pub fn xor(a: [u8; 16], b: [u8; 16]) -> [u8; 16]
         sum[i] = a[i] ^ b[i];
     }
     sum
+}
+
+// Whether two blocks are the same in all 16 bytes.
+pub fn equal(a: [u8; 16], b: [u8; 16]) -> bool
+    ensures { λ r. ⌜ r ≡ same a b ⌝ }
+{
+    for k in 0..16 {
+        if a[k] != b[k] {
+            return false;
+        }
+    }
+    true
 }
 
 fn get(s: &[u8], at: usize) -> [u8; 16]

@@ -9,7 +9,6 @@
 //     o  what the output holds before the call
 use lines::Decoded;
 use lines::Number;
-ghost use Prim.Native.Nat.{_<_};
 ghost use Rattle.io.specs.Counts.{Counts};
 
 // Bytes go to the memory of inputs one after the other, those of word k from ends[k - 1] up to ends[k]. The bytes of an
@@ -27,44 +26,31 @@ pub struct Taken {
     pub number: u64,
 }
 
-// The words of a line that has the form, or `ok` false.
-pub fn take(line: &[u8], form: &[u8; 8], ins: &mut [u8], outs: &mut [u8]) -> Args {
-    let mut a = Args {
-        ok: lines::count(line) == lines::find(form, 0, 32),
-        ends: [0usize; 8],
-        numbers: [0u64; 8],
-    };
+// The words of a line that has the form of a row of the table of calls, or `ok` false.
+pub fn take(line: &[u8], row: &[u8; 24], ins: &mut [u8], outs: &mut [u8]) -> Args {
+    let mut ok = lines::count(line) == lines::find(lines::part(row, 16, 24), 0, 32);
+    let mut ends = [0usize; 8];
+    let mut numbers = [0u64; 8];
+    let mut at: usize = 0;
     let mut k: usize = 1;
     while k < 8 {
-        let b = with_word(a, k, form[k], lines::word(line, k), ins, outs);
-        a = b;
+        let t = read_word(row[16 + k], lines::word(line, k), ins, outs, at);
+        if !t.ok {
+            ok = false;
+        }
+        at = t.end;
+        ends[k] = at;
+        numbers[k] = t.number;
         k += 1;
     }
-    a
+    Args { ok, ends, numbers }
 }
 
-fn with_word(a: Args, k: usize, kind: u8, word: &[u8], ins: &mut [u8], outs: &mut [u8]) -> Args
-    requires { ⌜ (0 < k) × (k < 8) ⌝ }
-{
-    let mut ends = a.ends;
-    let mut numbers = a.numbers;
-    if !a.ok {
-        return a;
-    }
-    if kind == 32 {
-        return a;
-    }
-    let t = read_word(kind, word, ins, outs, ends[k - 1]);
-    ends[k] = t.end;
-    numbers[k] = t.number;
-    Args {
-        ok: t.ok,
-        ends,
-        numbers,
-    }
-}
-
+// A form with fewer words asks for nothing past its last.
 fn read_word(kind: u8, word: &[u8], ins: &mut [u8], outs: &mut [u8], at: usize) -> Taken {
+    if kind == b' ' {
+        return of_number(Number::Is(0), at);
+    }
     if kind == b'n' {
         return of_number(lines::decimal(word, 4294967295), at);
     }
@@ -156,6 +142,24 @@ pub fn out_len(a: Args, k: usize, outs: &[u8]) -> usize
     if outs.len() < n { 0 } else { n }
 }
 
+// The number of word k where the form asks for one of 32 bits: no other has passed.
+pub fn number(a: Args, k: usize) -> u32 {
+    let numbers = a.numbers;
+    if 8 <= k {
+        return 0;
+    }
+    (numbers[k] % 4294967296) as u32
+}
+
+// The number of word k where the form asks for one of 64 bits.
+pub fn count(a: Args, k: usize) -> usize {
+    let numbers = a.numbers;
+    if 8 <= k {
+        return 0;
+    }
+    numbers[k] as usize
+}
+
 // The byte of word k where the form asks for one.
 pub fn byte(ins: &[u8], a: Args, k: usize) -> u8 {
     let s = bytes(ins, a, k);
@@ -164,14 +168,5 @@ pub fn byte(ins: &[u8], a: Args, k: usize) -> u8 {
 
 // The block of word k where the form asks for one.
 pub fn block(ins: &[u8], a: Args, k: usize) -> [u8; 16] {
-    let s = bytes(ins, a, k);
-    let mut b = [0u8; 16];
-    for i in 0..16 {
-        b[i] = byte_or_zero(s, i);
-    }
-    b
-}
-
-fn byte_or_zero(s: &[u8], i: usize) -> u8 {
-    if i < s.len() { s[i] } else { 0 }
+    blocks::load(bytes(ins, a, k), 0)
 }

@@ -1,129 +1,114 @@
-// The calls: the name of each, the form of its line, the call itself and its answer.
+// The calls: their names and forms in one table. Each group has a file with the calls themselves and their answers.
 use crate::args;
+use crate::basic;
 use crate::checked;
 use crate::held::Held;
+use crate::imaged;
 use crate::moded;
-use crate::print;
 use args::Args;
-use cipher::Ciphered;
+use basic::BasicCall;
+use checked::CheckCall;
+use imaged::ImageCall;
 use modes::Mode;
 use modes::Way;
-use schedule::KeyAnswer;
-use schedule::KeySchedule;
+
+// A row has the name of a call, and from its place 16 on the form of its line: the letters are in args.rt.
+const ROWS: [[u8; 24]; 20] = [
+    *b"product         .11     ",
+    *b"schedule        .x      ",
+    *b"encrypt         .xb     ",
+    *b"decrypt         .xb     ",
+    *b"ecb-encrypt     .xxxo   ",
+    *b"ecb-decrypt     .xxxo   ",
+    *b"cbc-encrypt     .xxxo   ",
+    *b"cbc-decrypt     .xxxo   ",
+    *b"cfb-encrypt     .xxxo   ",
+    *b"cfb-decrypt     .xxxo   ",
+    *b"ofb-encrypt     .xxxo   ",
+    *b"ofb-decrypt     .xxxo   ",
+    *b"check           .xx     ",
+    *b"check-start     .x      ",
+    *b"check-feed      .x      ",
+    *b"check-close     .       ",
+    *b"write           .xxnnnxo",
+    *b"read-start      .xx     ",
+    *b"read-turn       .wxo    ",
+    *b"read-complete   .       ",
+];
 
 pub enum Call {
-    Product,
-    Schedule,
-    Encrypt,
-    Decrypt,
+    Basic(BasicCall),
     Moded(Mode, Way),
-    Check,
-    CheckStart,
-    CheckFeed,
-    CheckClose,
+    Checked(CheckCall),
+    Imaged(ImageCall),
     Unknown,
 }
 
-fn named(w: &[u8]) -> Call {
-    if check::same(w, b"product") {
-        return Call::Product;
+// The call of a row.
+fn call_at(k: usize) -> Call {
+    match k {
+        0 => Call::Basic(BasicCall::Product),
+        1 => Call::Basic(BasicCall::Schedule),
+        2 => Call::Basic(BasicCall::Encrypt),
+        3 => Call::Basic(BasicCall::Decrypt),
+        4 => Call::Moded(Mode::Ecb, Way::Encrypt),
+        5 => Call::Moded(Mode::Ecb, Way::Decrypt),
+        6 => Call::Moded(Mode::Cbc, Way::Encrypt),
+        7 => Call::Moded(Mode::Cbc, Way::Decrypt),
+        8 => Call::Moded(Mode::Cfb, Way::Encrypt),
+        9 => Call::Moded(Mode::Cfb, Way::Decrypt),
+        10 => Call::Moded(Mode::Ofb, Way::Encrypt),
+        11 => Call::Moded(Mode::Ofb, Way::Decrypt),
+        12 => Call::Checked(CheckCall::Whole),
+        13 => Call::Checked(CheckCall::Start),
+        14 => Call::Checked(CheckCall::Feed),
+        15 => Call::Checked(CheckCall::Close),
+        16 => Call::Imaged(ImageCall::Write),
+        17 => Call::Imaged(ImageCall::Start),
+        18 => Call::Imaged(ImageCall::Turn),
+        19 => Call::Imaged(ImageCall::Complete),
+        _ => Call::Unknown,
     }
-    if check::same(w, b"schedule") {
-        return Call::Schedule;
-    }
-    if check::same(w, b"encrypt") {
-        return Call::Encrypt;
-    }
-    if check::same(w, b"decrypt") {
-        return Call::Decrypt;
-    }
-    let call = moded::named(w);
-    let Call::Unknown = call else {
-        return call;
-    };
-    checked::named(w)
 }
 
-// The letters of a form are in args.rt. No line has the form of the unknown call, since it asks for no word at all.
-fn form(call: Call) -> [u8; 8] {
-    match call {
-        Call::Product => *b".11     ",
-        Call::Schedule => *b".x      ",
-        Call::Encrypt => *b".xb     ",
-        Call::Decrypt => *b".xb     ",
-        Call::Moded(_, _) => *b".xxxo   ",
-        Call::Check => *b".xx     ",
-        Call::CheckStart => *b".x      ",
-        Call::CheckFeed => *b".x      ",
-        Call::CheckClose => *b".       ",
-        Call::Unknown => *b"        ",
+// No line has the form of a row past the last, since that asks for no word at all.
+fn row(k: usize) -> [u8; 24] {
+    if k < 20 { ROWS[k] } else { [32; 24] }
+}
+
+// The row that has a word for its name, or 20.
+fn row_of(w: &[u8]) -> usize {
+    let mut k: usize = 0;
+    while k < 20 {
+        if has_name(row(k), w) {
+            return k;
+        }
+        k += 1;
     }
+    k
+}
+
+fn has_name(row: [u8; 24], w: &[u8]) -> bool {
+    check::same(w, lines::part(&row, 0, lines::find(&row, 0, 32)))
 }
 
 // Puts the answer to a line after those that wait; for a bad line nothing is put and nothing held changes.
 pub fn answer(held: Held, line: &[u8], ins: &mut [u8], outs: &mut [u8], text: &mut [u8]) -> Held {
-    let call = named(lines::word(line, 0));
-    let a = args::take(line, &form(call), ins, outs);
+    let k = row_of(lines::word(line, 0));
+    let a = args::take(line, &row(k), ins, outs);
     if !a.ok {
         return held;
     }
+    made(call_at(k), held, ins, a, outs, text)
+}
+
+fn made(call: Call, held: Held, ins: &[u8], a: Args, outs: &mut [u8], text: &mut [u8]) -> Held {
     let at = held.end;
     match call {
-        Call::Product => held.at(product(ins, a, text, at)),
-        Call::Schedule => held.at(expand(ins, a, text, at)),
-        Call::Encrypt => held.at(encrypt(ins, a, text, at)),
-        Call::Decrypt => held.at(decrypt(ins, a, text, at)),
+        Call::Basic(c) => held.at(basic::answer(c, ins, a, text, at)),
         Call::Moded(mode, way) => held.at(moded::answer(mode, way, ins, a, outs, text, at)),
-        Call::Check => held.at(checked::whole(ins, a, text, at)),
-        Call::CheckStart => checked::start(held, ins, a, text, at),
-        Call::CheckFeed => checked::feed(held, ins, a, text, at),
-        Call::CheckClose => held.at(checked::close(held, text, at)),
+        Call::Checked(c) => checked::answer(c, held, ins, a, text, at),
+        Call::Imaged(c) => imaged::answer(c, held, ins, a, outs, text, at),
         Call::Unknown => held,
     }
-}
-
-pub fn key_number(k: KeyAnswer) -> u64 {
-    match k {
-        KeyAnswer::Taken => 0,
-        KeyAnswer::KeyLength => 1,
-    }
-}
-
-// `product A B`
-fn product(ins: &[u8], a: Args, text: &mut [u8], at: usize) -> usize {
-    let p = [field::product(args::byte(ins, a, 1), args::byte(ins, a, 2))];
-    print::number_bytes(0, &p, text, at)
-}
-
-// `schedule KEY`
-fn expand(ins: &[u8], a: Args, text: &mut [u8], at: usize) -> usize {
-    let e = KeySchedule::new(args::bytes(ins, a, 1));
-    let answer = e.answer;
-    let schedule = e.schedule;
-    let words = schedule.words;
-    print::number_words(key_number(answer), words, text, at)
-}
-
-// `encrypt KEY BLOCK`
-fn encrypt(ins: &[u8], a: Args, text: &mut [u8], at: usize) -> usize {
-    ciphered(
-        cipher::encrypt(args::bytes(ins, a, 1), args::block(ins, a, 2)),
-        text,
-        at,
-    )
-}
-
-// `decrypt KEY BLOCK`
-fn decrypt(ins: &[u8], a: Args, text: &mut [u8], at: usize) -> usize {
-    ciphered(
-        cipher::decrypt(args::bytes(ins, a, 1), args::block(ins, a, 2)),
-        text,
-        at,
-    )
-}
-
-fn ciphered(c: Ciphered, text: &mut [u8], at: usize) -> usize {
-    let answer = c.answer;
-    let block = c.block;
-    print::number_bytes(key_number(answer), &block, text, at)
 }

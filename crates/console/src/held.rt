@@ -1,14 +1,18 @@
 // What the console holds from line to line.
 use cmac::Record;
+use header::Progress;
+use image::Reader;
+use schedule::KeySchedule;
 
 // The answers that wait to be written end at `end`; a call that keeps a value has its field here.
 pub struct Held {
     pub end: usize,
     pub record: Record,
+    pub reader: Reader,
 }
 
 impl Held {
-    // The zero record stands for no start.
+    // The zero record and the zero state stand for no start.
     pub fn new() -> Held {
         Held {
             end: 0,
@@ -18,6 +22,16 @@ impl Held {
                 chain: [0u8; 16],
                 held: [0u8; 16],
                 count: 0,
+            },
+            reader: Reader {
+                enc: no_key(),
+                chk: no_key(),
+                progress: Progress {
+                    next: 0,
+                    fixed: false,
+                    count: 0,
+                    release: 0,
+                },
             },
         }
     }
@@ -31,5 +45,17 @@ impl Held {
     pub fn with_record(mut self, record: Record) -> Held {
         self.record = record;
         self
+    }
+
+    pub fn with_reader(mut self, reader: Reader) -> Held {
+        self.reader = reader;
+        self
+    }
+}
+
+fn no_key() -> KeySchedule {
+    KeySchedule {
+        words: [0u32; 60],
+        rounds: 0,
     }
 }

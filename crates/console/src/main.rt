@@ -1,10 +1,13 @@
 // Reads lines on standard input and answers each with one line on standard output.
 mod args;
+mod basic;
 mod calls;
 mod checked;
 mod held;
+mod imaged;
 mod moded;
 mod print;
+mod stopped;
 
 use held::Held;
 use libc::STDIN_FILENO;
@@ -86,23 +89,12 @@ fn finish(
 ) -> Held {
     let held = with_room(h, text);
     let from = held.end;
-    let d = judge(held, p, line, ins, outs, text);
+    if p.over {
+        return held.at(close(from, from, text));
+    }
+    let d = calls::answer(held, lines::part(line, 0, p.len), ins, outs, text);
     let to = d.end;
     d.at(close(from, to, text))
-}
-
-fn judge(
-    held: Held,
-    p: Place,
-    line: &Line,
-    ins: &mut Bytes,
-    outs: &mut Bytes,
-    text: &mut Answers,
-) -> Held {
-    if p.over {
-        return held;
-    }
-    calls::answer(held, lines::part(line, 0, p.len), ins, outs, text)
 }
 
 fn close(from: usize, to: usize, text: &mut [u8]) -> usize {
@@ -147,6 +139,7 @@ fn feed(
     h: Held,
     p: Place,
     part: &[u8],
+    go_on: bool,
     line: &mut Line,
     ins: &mut Bytes,
     outs: &mut Bytes,
@@ -164,31 +157,7 @@ fn feed(
     Turned {
         held: written(held, text),
         place,
-        go_on: true,
-    }
-}
-
-// At the end of the input a line that has begun counts.
-fn end(
-    h: Held,
-    p: Place,
-    line: &Line,
-    ins: &mut Bytes,
-    outs: &mut Bytes,
-    text: &mut Answers,
-) -> Turned {
-    if !started(p) {
-        return Turned {
-            held: h,
-            place: p,
-            go_on: false,
-        };
-    }
-    let held = finish(h, p, line, ins, outs, text);
-    Turned {
-        held: written(held, text),
-        place: empty(),
-        go_on: false,
+        go_on,
     }
 }
 
@@ -196,31 +165,34 @@ fn started(p: Place) -> bool {
     if 0 < p.len { true } else { p.over }
 }
 
-// Reads once and answers the lines that came whole.
-fn turn(
-    held: Held,
-    p: Place,
-    line: &mut Line,
-    ins: &mut Bytes,
-    outs: &mut Bytes,
-    text: &mut Answers,
-) -> Turned {
+// Reads once and answers the lines that came whole. At the end of the input a line that has begun counts, as if a line feed
+// stood behind it.
+fn turn(held: Held, p: Place, line: &mut Line, text: &mut Answers) -> Turned {
+    let mut ins = [0u8; 32768];
+    let mut outs = [0u8; 32768];
     let mut chunk = [0u8; 4096];
     let got = libc::read(STDIN_FILENO, &mut chunk);
     if got <= 0 {
-        return end(held, p, line, ins, outs, text);
+        if !started(p) {
+            return Turned {
+                held,
+                place: p,
+                go_on: false,
+            };
+        }
+        return feed(held, p, b"\n", false, line, &mut ins, &mut outs, text);
     }
     let n = io::count(got, &chunk);
-    feed(held, p, &chunk[..n], line, ins, outs, text)
+    feed(held, p, &chunk[..n], true, line, &mut ins, &mut outs, text)
 }
 
 // Nothing says that the input ends, so the turns are counted down from a number that no run uses up.
-fn serve(line: &mut Line, ins: &mut Bytes, outs: &mut Bytes, text: &mut Answers) {
+fn serve(line: &mut Line, text: &mut Answers) {
     let mut held = Held::new();
     let mut place = empty();
     let mut turns = u64::MAX;
     while turns > 0 {
-        let t = turn(held, place, line, ins, outs, text);
+        let t = turn(held, place, line, text);
         if !t.go_on {
             return;
         }
@@ -232,8 +204,6 @@ fn serve(line: &mut Line, ins: &mut Bytes, outs: &mut Bytes, text: &mut Answers)
 
 fn main() {
     let mut line = [0u8; 65536];
-    let mut ins = [0u8; 32768];
-    let mut outs = [0u8; 32768];
     let mut text = [0u8; 132096];
-    serve(&mut line, &mut ins, &mut outs, &mut text);
+    serve(&mut line, &mut text);
 }

@@ -1,10 +1,29 @@
 // Answers as text, put into lent memory at a place: the place after them.
+use crate::stopped::NONE;
 
 // A number in decimal.
 pub fn number(n: u64, text: &mut [u8], at: usize) -> usize {
     let mut digits = [0u8; 20];
     let k = io::decimal(n, &mut digits);
     lines::put(&digits[..k], text, at)
+}
+
+// A number, or `-` for the mark that there is none.
+fn number_or_dash(n: u64, text: &mut [u8], at: usize) -> usize {
+    if n == NONE {
+        return lines::put(b"-", text, at);
+    }
+    number(n, text, at)
+}
+
+// Six numbers, each with a space behind it.
+pub fn six(numbers: [u64; 6], text: &mut [u8], at: usize) -> usize {
+    let mut p = at;
+    for i in 0..6 {
+        let q = number_or_dash(numbers[i], text, p);
+        p = lines::put(b" ", text, q);
+    }
+    p
 }
 
 // `N BYTES`

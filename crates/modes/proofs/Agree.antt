@@ -1,11 +1,11 @@
 -- A run over the tables of the standard is the mode over AES. Assumes nothing.
 use mathlib.Core.Path.{_≡_, refl, ap, _∙_}
-use mathlib.Core.List.{List, _++_}
+use mathlib.Core.List.{List, [], _++_, append-nil}
 use Prim.Native.Nat.{ℕ, zero, suc, _+_, _*_, _/_, _%_, _≤_, _<_}
 use native.Mathlib.Omega.{arith}
 use mathlib.Core.Logic.{⊎-elim}
 use borrow.Author.Tests.{lt-ltb, le-ltb}
-use lib.ListN.{length, take, drop}
+use lib.ListN.{length, take, drop, drop-of-length-le}
 use lib.Seq.{take-all}
 use Rattle.octets.specs.Octets.{Bytes, Octets}
 use Rattle.octets.specs.Blocks.{_⊕_, BlockCipher, Lawful}
@@ -95,6 +95,22 @@ common-le a b = ⊎-elim shorter equal (lt-or-le a b)
 
     equal : b ≤ a → (common a b * 16 ≤ a) × (common a b * 16 ≤ b)
     equal k = rw (le-ltb a b k) (omega arith, omega arith)
+
+-- a mode over either cipher
+pub moded-same : (c d : BlockCipher) → Agree c d → Lawful 16 d → (m : Mode) (w : Way) (iv s : List ℕ) → ChainOf m iv → Bytes s → length s % 16 ≡ 0
+    → moded c m w iv s ≡ moded d m w iv s
+moded-same c d a l m w iv s g b h =
+    made-same 16 (machine d m w) (ChainOf m) (Octets 16) (keeps d l m w) (machine c m w) (out-same c d a m w) (next-same c d a m w) ((length s + 15) / 16) iv s g
+    (each-whole 16 ((length s + 15) / 16) s (omega arith) b)
+
+-- a run whose input and output are as long, and whole pieces: the mode, whatever the cipher
+pub through-whole : (c : BlockCipher) (m : Mode) (w : Way) (iv inp out : List ℕ) → length inp % 16 ≡ 0 → length inp ≡ length out → through c m w iv inp out ≡ moded c m w iv inp
+unfolding through
+through-whole c m w iv inp out h e =
+    let n = (length inp + 15) / 16 in
+    let k = common-all (length inp) (length out) h (omega arith) in
+    let z : drop (n * 16) out ≡ [] = drop-of-length-le out {i = n * 16} (omega arith) in
+    rw (k, z) (append-nil (made 16 (machine c m w) iv n inp))
 
 module _ (c d : BlockCipher) (a : Agree c d) (l : Lawful 16 d) (m : Mode) (w : Way) (iv inp out : List ℕ)
     (hi : length iv ≡ ivLength m) (bi : Bytes iv) (bs : Bytes inp) (hp : length inp % 16 ≡ 0) (ho : length inp ≤ length out) where

@@ -4,3 +4,13 @@ pub mod Cipher
 pub mod Modes
 pub mod Check
 pub mod Text
+pub mod ImageTerms
+pub mod ImageSealed
+pub mod ImageJudge
+pub mod ImageTurn
+pub mod ImageSound
+pub mod ImageWhole
+pub mod ImageCalls
+pub mod ImageRead
+pub mod Image
+pub mod ImageDemands

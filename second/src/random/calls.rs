@@ -40,8 +40,8 @@ pub const CALLS: &[Call] = &[
     call("check-feed", 5, one_message),
     call("check-close", 3, no_words),
     call("write", 3, write_words),
-    call("read-start", 3, start_words),
-    call("read-turn", 6, turn_words),
+    call("read-start", 2, start_words),
+    call("read-turn", 10, turn_words),
     call("read-complete", 2, no_words),
 ];
 
@@ -98,10 +98,10 @@ impl Draw {
 
     /// Lent memory: mostly what is needed, sometimes more, sometimes less.
     fn output(&mut self, needed: usize) -> String {
-        let length = match self.rng.below(10) {
+        let length = match self.rng.below(20) {
             0 => needed.saturating_sub(1 + self.rng.below(20)),
             1 => self.rng.below(needed + 1),
-            2 | 3 => needed + 1 + self.rng.below(40),
+            2..=5 => needed + 1 + self.rng.below(40),
             _ => needed,
         };
         self.hex(length)
@@ -216,13 +216,23 @@ fn turn_words(draw: &mut Draw) -> Vec<String> {
     let lent = blocks_lent(&mut draw.rng);
     let asked = blocks_asked(&mut draw.rng);
     let handled = lent.min(usize::try_from(asked).unwrap_or(lent));
-    let blocks = draw.plan.blocks(&mut draw.rng, draw.expected, lent);
+    let first = first_offered(&mut draw.rng, draw.expected);
+    let blocks = draw.plan.blocks(&mut draw.rng, first, lent);
     let blocks = mostly_whole(&mut draw.rng, blocks);
     vec![
         draw.numeral(asked),
         shown(&blocks),
         draw.output(PAYLOAD * handled),
     ]
+}
+
+/// Mostly the block that is expected, sometimes the one before it again, or the one behind it.
+fn first_offered(rng: &mut Rng, expected: u32) -> u32 {
+    match rng.below(40) {
+        0 => expected.saturating_sub(1),
+        1 => expected.saturating_add(1),
+        _ => expected,
+    }
 }
 
 fn blocks_lent(rng: &mut Rng) -> usize {

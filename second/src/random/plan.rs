@@ -5,7 +5,7 @@ use super::rng::Rng;
 use crate::image::{filled, Header, Keys, BLOCK, PAYLOAD};
 
 /// How many of a hundred blocks are damaged.
-const DAMAGED: usize = 22;
+const DAMAGED: usize = 18;
 
 #[derive(Clone, Default)]
 pub struct Plan {
@@ -33,8 +33,8 @@ impl Plan {
         };
         let count = match rng.below(20) {
             0 => rng.pick([33, 129, 65_535]),
-            1..=8 => 1 + rng.below(2),
-            _ => 1 + rng.below(10),
+            1..=5 => 1 + rng.below(2),
+            _ => 1 + rng.below(20),
         };
         Plan {
             encryption_key,

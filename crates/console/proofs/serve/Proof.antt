@@ -4,10 +4,10 @@ use Rattle.console.proofs.serve.Statement.{statement}
 use Rattle.console.proofs.serve.Tie as tie
 
 abbrev Inv-loop : tie.InvT-loop
-Inv-loop line₀ ins₀ outs₀ text₀ held₀ place₀ turns₀ line ins outs text held place turns = Unit {0}
+Inv-loop line₀ text₀ held₀ place₀ turns₀ line text held place turns = Unit {0}
 
 abbrev μ-loop : tie.MeasureT-loop
-μ-loop line₀ ins₀ outs₀ text₀ held₀ place₀ turns₀ line ins outs text held place turns = turns
+μ-loop line₀ text₀ held₀ place₀ turns₀ line text held place turns = turns
 
 new-requires : tie.Need-new-requires Inv-loop μ-loop
 new-requires c κs = search needs

@@ -1,5 +1,5 @@
 -- Lent memory keeps its length. Assumes nothing.
-use Prim.Native.Nat.{_-_, _≤_}
+use Prim.Native.Nat.{_-_}
 use mathlib.Core.Path.{_≡_}
 use lib.ListN.{length}
 use borrow.Author.Needs.{needs}
@@ -7,13 +7,16 @@ use Rattle.console.proofs.args.take.Statement.{statement}
 use Rattle.console.proofs.args.take.Tie as tie
 
 abbrev Inv-loop : tie.InvT-loop
-Inv-loop line form ins₀ outs₀ a₀ k₀ ins outs a k = (length ins ≡ length ins₀) × (length outs ≡ length outs₀) × (1 ≤ k)
+Inv-loop line row ins₀ outs₀ ok₀ ends₀ numbers₀ at₀ k₀ ins outs ok ends numbers at k = (length ins ≡ length ins₀) × (length outs ≡ length outs₀)
 
 abbrev μ-loop : tie.MeasureT-loop
-μ-loop line form ins₀ outs₀ a₀ k₀ ins outs a k = 8 - k
+μ-loop line row ins₀ outs₀ ok₀ ends₀ numbers₀ at₀ k₀ ins outs ok ends numbers at k = 8 - k
 
 count-requires : tie.Need-count-requires Inv-loop μ-loop
 count-requires c κs = search needs
+
+part-requires : tie.Need-part-requires Inv-loop μ-loop
+part-requires c κs = search needs
 
 find-requires : tie.Need-find-requires Inv-loop μ-loop
 find-requires c κs = search needs
@@ -21,14 +24,29 @@ find-requires c κs = search needs
 loop-holds : tie.Need-loop-holds Inv-loop μ-loop
 loop-holds c = search needs
 
-element-copy-out-with-word : tie.Need-element-copy-out-with-word Inv-loop μ-loop
-element-copy-out-with-word c = search needs
+add-read-word : tie.Need-add-read-word Inv-loop μ-loop
+add-read-word c = search needs
+
+element-copy-out-read-word : tie.Need-element-copy-out-read-word Inv-loop μ-loop
+element-copy-out-read-word c = search needs
 
 word-requires : tie.Need-word-requires Inv-loop μ-loop
 word-requires c κs = search needs
 
-with-word-requires : tie.Need-with-word-requires Inv-loop μ-loop
-with-word-requires c κs = search needs
+read-word-requires : tie.Need-read-word-requires Inv-loop μ-loop
+read-word-requires c κs = search needs
+
+mul-ends : tie.Need-mul-ends Inv-loop μ-loop
+mul-ends c = search needs
+
+array-write-ends : tie.Need-array-write-ends Inv-loop μ-loop
+array-write-ends c = search needs
+
+mul-numbers : tie.Need-mul-numbers Inv-loop μ-loop
+mul-numbers c = search needs
+
+array-write-numbers : tie.Need-array-write-numbers Inv-loop μ-loop
+array-write-numbers c = search needs
 
 add-k : tie.Need-add-k Inv-loop μ-loop
 add-k c = search needs
@@ -55,11 +73,17 @@ take-spec =
     Inv-loop
     μ-loop
     count-requires
+    part-requires
     find-requires
     loop-holds
-    element-copy-out-with-word
+    add-read-word
+    element-copy-out-read-word
     word-requires
-    with-word-requires
+    read-word-requires
+    mul-ends
+    array-write-ends
+    mul-numbers
+    array-write-numbers
     add-k
     loop-less
     loop-again

@@ -1,0 +1,95 @@
+// The lines of images: `write EKEY CKEY NUMBER COUNT RELEASE PAYLOAD OUT`, `read-start EKEY CKEY`,
+// `read-turn ASKED BLOCKS OUT` and `read-complete`.
+use crate::args;
+use crate::basic::key_number;
+use crate::held::Held;
+use crate::print;
+use crate::stopped;
+use args::Args;
+use image::Completion;
+use image::Turn;
+use image::WriteAnswer;
+
+pub enum ImageCall {
+    Write,
+    Start,
+    Turn,
+    Complete,
+}
+
+pub fn answer(
+    call: ImageCall,
+    held: Held,
+    ins: &[u8],
+    a: Args,
+    outs: &mut [u8],
+    text: &mut [u8],
+    at: usize,
+) -> Held {
+    match call {
+        ImageCall::Write => held.at(write(ins, a, outs, text, at)),
+        ImageCall::Start => start(held, ins, a, text, at),
+        ImageCall::Turn => turn(held, ins, a, outs, text, at),
+        ImageCall::Complete => held.at(complete(held, text, at)),
+    }
+}
+
+fn write(ins: &[u8], a: Args, outs: &mut [u8], text: &mut [u8], at: usize) -> usize {
+    let n = args::out_len(a, 7, outs);
+    let r = image::write(
+        args::bytes(ins, a, 1),
+        args::bytes(ins, a, 2),
+        args::number(a, 3),
+        args::number(a, 4),
+        args::number(a, 5),
+        args::bytes(ins, a, 6),
+        &mut outs[..n],
+    );
+    print::number_bytes(write_number(r), lines::part(outs, 0, n), text, at)
+}
+
+fn write_number(r: WriteAnswer) -> u64 {
+    match r {
+        WriteAnswer::Written => 0,
+        WriteAnswer::WriteKey => 1,
+        WriteAnswer::WriteRoom => 4,
+        WriteAnswer::WriteCount => 7,
+        WriteAnswer::WriteNumber => 8,
+        WriteAnswer::WriteLength => 12,
+    }
+}
+
+fn start(held: Held, ins: &[u8], a: Args, text: &mut [u8], at: usize) -> Held {
+    let s = image::read_start(args::bytes(ins, a, 1), args::bytes(ins, a, 2));
+    let answer = s.answer;
+    let reader = s.reader;
+    held.with_reader(reader)
+        .at(print::number(key_number(answer), text, at))
+}
+
+fn turn(held: Held, ins: &[u8], a: Args, outs: &mut [u8], text: &mut [u8], at: usize) -> Held {
+    let reader = held.reader;
+    let n = args::out_len(a, 3, outs);
+    let blocks = args::bytes(ins, a, 2);
+    let t = image::read_turn(reader, blocks, args::count(a, 1), &mut outs[..n]);
+    after_turn(held, t, lines::part(outs, 0, n), text, at)
+}
+
+fn after_turn(held: Held, t: Turn, out: &[u8], text: &mut [u8], at: usize) -> Held {
+    let reader = t.reader;
+    let p = print::six(stopped::turn_numbers(t), text, at);
+    held.with_reader(reader).at(lines::put_hex(out, text, p))
+}
+
+fn complete(held: Held, text: &mut [u8], at: usize) -> usize {
+    let reader = held.reader;
+    let c = image::read_complete(reader);
+    print::number(completion_number(c), text, at)
+}
+
+fn completion_number(c: Completion) -> u64 {
+    match c {
+        Completion::Complete => 0,
+        Completion::NotComplete => 17,
+    }
+}

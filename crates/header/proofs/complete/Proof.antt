@@ -1,0 +1,14 @@
+use Rattle.header.specs.Rules.{done}
+use Rattle.header.proofs.complete.Statement.{statement}
+use Rattle.header.proofs.complete.Tie as tie
+
+returns : tie.Need-returns
+unfolding done
+returns c = rw (c .before .if1 .taken)
+
+returns-2 : tie.Need-returns-2
+unfolding done
+returns-2 c = rw (c .if1 .left)
+
+pub complete-spec : {M : Type 1} → statement M
+complete-spec = tie.close (tie.spec returns returns-2)

@@ -1,0 +1,74 @@
+-- What a header must say, and the order in which it is asked (document 01, 'Numbers of the refusals'). Assumes nothing: these are definitions.
+use Prim.Native.Nat.{ℕ, _+_}
+use mathlib.Core.Bool.{Bool, _&&_, _||_, not}
+use mathlib.Core.List.{List, [], _∷_}
+use lib.Dec.{eqb, ltb, leb}
+use Rattle.octets.specs.Octets.{choose}
+use Rattle.header.specs.Layout.{bodySize}
+use Rattle.header.specs.declared.Head.{Head}
+use Rattle.header.specs.declared.Progress.{Progress}
+use Rattle.header.specs.declared.Reason.{Reason}
+use Rattle.header.specs.declared.Reason.the-variants.{AfterLast, CheckWrong, Count, Number, OtherCount, OtherRelease, NotBelow, Length, Reserved, FillNotZero}
+use Rattle.header.specs.declared.Verdict.{Verdict}
+use Rattle.header.specs.declared.Verdict.the-variants.{Accepted, Refused}
+
+-- document 01's number for each reason
+abbrev pub reasonNumber : Reason → ℕ
+reasonNumber (Count v) = 7
+reasonNumber (Number v) = 8
+reasonNumber (OtherCount v) = 9
+reasonNumber (OtherRelease v) = 10
+reasonNumber (NotBelow v) = 11
+reasonNumber (Length v) = 12
+reasonNumber (Reserved v) = 13
+reasonNumber CheckWrong = 14
+reasonNumber FillNotZero = 15
+reasonNumber AfterLast = 16
+
+-- and the value that it holds
+abbrev pub reasonValue : Reason → List ℕ
+reasonValue (Count v) = v ∷ []
+reasonValue (Number v) = v ∷ []
+reasonValue (OtherCount v) = v ∷ []
+reasonValue (OtherRelease v) = v ∷ []
+reasonValue (NotBelow v) = v ∷ []
+reasonValue (Length v) = v ∷ []
+reasonValue (Reserved v) = v ∷ []
+reasonValue CheckWrong = []
+reasonValue FillNotZero = []
+reasonValue AfterLast = []
+
+-- 0 where a block is accepted
+abbrev pub verdictNumber : Verdict → ℕ
+verdictNumber Accepted = 0
+verdictNumber (Refused r) = reasonNumber r
+
+-- tests, each with the reason that it gives where it holds: the first that holds refuses
+unfoldable pub firstOf : List (Bool × Reason) → Verdict
+firstOf [] = Accepted
+firstOf (t ∷ ts) = choose (t .0) (Refused (t .1)) (firstOf ts)
+
+-- the last block has been accepted: count and release are fixed, and the number expected is the count
+unfoldable pub done : Progress → Bool
+done s = s .fixed && eqb (s .next) (s .count)
+
+-- a count is 1 to 65,535
+unfoldable pub countFits : ℕ → Bool
+countFits n = ltb 0 n && leb n 65535
+
+-- the last block holds 1 to 480 bytes, or 0 to 480 when it is the only one; every other block holds 480
+unfoldable pub lengthFits : (number count len : ℕ) → Bool
+lengthFits number count len =
+    choose (eqb (number + 1) count) (leb len bodySize && (ltb 0 len || eqb count 1)) (eqb len bodySize)
+
+-- 7, 8, 9, 10, 11, 12, 13 of a block's own header, in that order
+unfoldable pub headTests : Progress → Head → List (Bool × Reason)
+headTests s h =
+    (not (countFits (h .count)), Count (h .count))
+    ∷ (not (eqb (h .number) (s .next)), Number (h .number))
+    ∷ (s .fixed && not (eqb (h .count) (s .count)), OtherCount (h .count))
+    ∷ (s .fixed && not (eqb (h .release) (s .release)), OtherRelease (h .release))
+    ∷ (not (ltb (h .number) (h .count)), NotBelow (h .number))
+    ∷ (not (lengthFits (h .number) (h .count) (h .len)), Length (h .len))
+    ∷ (not (eqb (h .reserved) 0), Reserved (h .reserved))
+    ∷ []

@@ -1,0 +1,183 @@
+// The header of a block of an image: its bytes, and the tests that a reader makes of it.
+use words::join;
+ghost use mathlib.Core.Path.{_≡_};
+ghost use mathlib.Core.Bool.{_&&_, _||_, not};
+ghost use Prim.Native.Nat.{_+_, _*_, _/_, _%_};
+ghost use lib.Dec.{eqb, ltb, leb};
+ghost use Rattle.header.specs.Layout.{bodySize, headOf, headBytes};
+ghost use Rattle.header.specs.Rules.{firstOf, done, countFits, lengthFits, headTests};
+
+pub struct Head {
+    pub number: u32,
+    pub count: u32,
+    pub release: u32,
+    pub len: u16,
+    pub reserved: u16,
+}
+
+// How far a reader has come: the number that it expects, and the count and release that its first accepted block fixed.
+pub struct Progress {
+    pub next: u32,
+    pub fixed: bool,
+    pub count: u32,
+    pub release: u32,
+}
+
+// Why a block was refused, with the value found.
+pub enum Reason {
+    AfterLast,
+    CheckWrong,
+    Count(u32),
+    Number(u32),
+    OtherCount(u32),
+    OtherRelease(u32),
+    NotBelow(u32),
+    Length(u16),
+    Reserved(u16),
+    FillNotZero,
+}
+
+pub enum Verdict {
+    Accepted,
+    Refused(Reason),
+}
+
+// The header in the first 16 bytes of a block.
+pub fn head_of(first: [u8; 16]) -> Head
+    ensures { λ r. ⌜ r ≡ headOf first ⌝ }
+{
+    Head {
+        number: join(first[0], first[1], first[2], first[3]),
+        count: join(first[4], first[5], first[6], first[7]),
+        release: join(first[8], first[9], first[10], first[11]),
+        len: join_half(first[12], first[13]),
+        reserved: join_half(first[14], first[15]),
+    }
+}
+
+// The bytes of a header.
+pub fn head_bytes(head: Head) -> [u8; 16]
+    ensures { λ r. ⌜ r ≡ headBytes head ⌝ }
+{
+    let number = head.number;
+    let count = head.count;
+    let release = head.release;
+    let len = head.len;
+    let reserved = head.reserved;
+    [
+        (number / 16777216 % 256) as u8,
+        (number / 65536 % 256) as u8,
+        (number / 256 % 256) as u8,
+        (number % 256) as u8,
+        (count / 16777216 % 256) as u8,
+        (count / 65536 % 256) as u8,
+        (count / 256 % 256) as u8,
+        (count % 256) as u8,
+        (release / 16777216 % 256) as u8,
+        (release / 65536 % 256) as u8,
+        (release / 256 % 256) as u8,
+        (release % 256) as u8,
+        (len / 256 % 256) as u8,
+        (len % 256) as u8,
+        (reserved / 256 % 256) as u8,
+        (reserved % 256) as u8,
+    ]
+}
+
+// Whether the last block has been accepted.
+pub fn complete(progress: Progress) -> bool
+    ensures { λ r. ⌜ r ≡ done progress ⌝ }
+{
+    if progress.fixed {
+        progress.next == progress.count
+    } else {
+        false
+    }
+}
+
+pub fn count_fits(count: u32) -> bool
+    ensures { λ r. ⌜ r ≡ countFits count ⌝ }
+{
+    if count == 0 { false } else { count <= 65535 }
+}
+
+// Whether a block of this number, of so many, may hold so many bytes.
+pub fn length_fits(number: u32, count: u32, len: usize) -> bool
+    ensures { λ r. ⌜ r ≡ lengthFits number count len ⌝ }
+{
+    if is_last(number, count) {
+        last_fits(count, len)
+    } else {
+        len == 480
+    }
+}
+
+// What the tests 7 to 13 say of a header, asked in that order.
+pub fn judge_head(progress: Progress, head: Head) -> Verdict
+    ensures { λ r. ⌜ r ≡ firstOf (headTests progress head) ⌝ }
+{
+    let fixed = progress.fixed;
+    let number = head.number;
+    let count = head.count;
+    let release = head.release;
+    let len = head.len;
+    let reserved = head.reserved;
+    if !count_fits(count) {
+        return Verdict::Refused(Reason::Count(count));
+    }
+    if number != progress.next {
+        return Verdict::Refused(Reason::Number(number));
+    }
+    if differs(fixed, count, progress.count) {
+        return Verdict::Refused(Reason::OtherCount(count));
+    }
+    if differs(fixed, release, progress.release) {
+        return Verdict::Refused(Reason::OtherRelease(release));
+    }
+    if number >= count {
+        return Verdict::Refused(Reason::NotBelow(number));
+    }
+    if !length_fits(number, count, len as usize) {
+        return Verdict::Refused(Reason::Length(len));
+    }
+    if reserved != 0 {
+        return Verdict::Refused(Reason::Reserved(reserved));
+    }
+    Verdict::Accepted
+}
+
+fn join_half(a: u8, b: u8) -> u16
+    ensures { λ r. ⌜ r ≡ a * 256 + b ⌝ }
+{
+    (a as u16) * 256 + (b as u16)
+}
+
+// Asked so that no sum can wrap.
+fn is_last(number: u32, count: u32) -> bool
+    ensures { λ r. ⌜ r ≡ eqb (number + 1) count ⌝ }
+{
+    if number < count {
+        count - number == 1
+    } else {
+        false
+    }
+}
+
+fn last_fits(count: u32, len: usize) -> bool
+    ensures { λ r. ⌜ r ≡ leb len bodySize && (ltb 0 len || eqb count 1) ⌝ }
+{
+    if 480 < len {
+        return false;
+    }
+    if len == 0 {
+        return count == 1;
+    }
+    true
+}
+
+// Once count and release are fixed, others differ.
+fn differs(fixed: bool, found: u32, wanted: u32) -> bool
+    ensures { λ r. ⌜ r ≡ fixed && not (eqb found wanted) ⌝ }
+{
+    if fixed { found != wanted } else { false }
+}

@@ -1,0 +1,174 @@
+-- From what the parts of a call give to what the call is to give. Assumes nothing.
+use mathlib.Core.Path.{_≡_, refl, sym, ap, ap₂, _∙_}
+use mathlib.Core.Bool.{Bool, true, false, _&&_, _||_, not}
+use mathlib.Core.List.{List, [], _∷_}
+use Prim.Native.Nat.{ℕ, _+_, _*_, _%_, _≤_}
+use native.Mathlib.Omega.{arith}
+use types.Run.{OneOf, miss}
+use denote.Enum.Declared.{tagOf}
+use borrow.Author.Tests.{eqb-true, ltb-false, leb-true}
+use lib.Dec.{eqb, ltb, leb}
+use lib.ListN.{length}
+use Rattle.octets.specs.Octets.{Bytes, choose, tabulate}
+use Rattle.sbox.specs.Sbox.{sBox, invSBox, entry}
+use Rattle.schedule.specs.Schedule.{scheduleOf, keyNumber}
+use Rattle.schedule.specs.declared.Expanded.{Expanded}
+use Rattle.schedule.specs.declared.KeyAnswer.the-variants.{Taken, KeyLength}
+use Rattle.schedule.proofs.Laws.{schedule-table}
+use Rattle.cipher.proofs.Lawful.{key-lawful}
+use Rattle.modes.specs.Modes.{over}
+use Rattle.cmac.specs.Running.{lent}
+use Rattle.header.specs.Rules.{countFits, lengthFits}
+use Rattle.image.specs.Sealed.{sealed}
+use Rattle.image.specs.Turn.{Reading, ran, cut}
+use Rattle.image.specs.Calls.{bothTaken, writeRuled, writeAnswer, headFor, writeOutput, noSchedule, startWith, startOf, keysOf, handled, whole, turned, turnOf}
+use Rattle.image.specs.Lent.{lentBoth, lentKeys, ranOf}
+use Rattle.image.specs.declared.WriteAnswer.{WriteAnswer}
+use Rattle.image.specs.declared.WriteAnswer.the-variants.{Written, WriteKey, WriteCount, WriteNumber, WriteLength, WriteRoom}
+use Rattle.image.specs.declared.Reader.{Reader}
+use Rattle.image.specs.declared.ReadStarted.{ReadStarted}
+use Rattle.image.specs.declared.Stop.the-variants.{Asked, Lent, Room}
+use Rattle.image.specs.declared.Turn.{Turn}
+use Rattle.image.specs.declared.turns.Ran.{Ran}
+use Rattle.image.proofs.WriteAnswer.{the-type}
+use Rattle.image.proofs.Agree.{sealed-same, ran-same}
+
+-- ---- a turn's own tests
+
+module _ (r : Reader) (given : List ℕ) (asked : ℕ) (out : List ℕ) where
+  pub turn-asked : (ltb 0 asked && leb asked 128) ≡ false → (whole r Asked, out) ≡ turnOf r given asked out
+  unfolding turnOf
+  turn-asked e = rw e
+
+  module _ (e1 : (ltb 0 asked && leb asked 128) ≡ true) where
+    pub turn-lent : eqb (length given % 512) 0 ≡ false → (whole r Lent, out) ≡ turnOf r given asked out
+    unfolding turnOf
+    turn-lent e2 = rw (e1, e2)
+
+    pub asked-most : asked ≤ 128
+    asked-most = leb-true asked 128 (second (ltb 0 asked) (leb asked 128) e1)
+      where
+        second : (t u : Bool) → (t && u) ≡ true → u ≡ true
+        second true u q = q
+        second false u q = let y : _≡_ {A = ℕ} 0 1 = cc in absurd (omega arith)
+
+    module _ (e2 : eqb (length given % 512) 0 ≡ true) (k : ℕ) (ek : k ≡ handled given asked) where
+      pub turn-room : ltb (length out) (k * 480) ≡ true → (whole r Room, out) ≡ turnOf r given asked out
+      unfolding turnOf
+      turn-room e3 = let f : ltb (length out) (handled given asked * 480) ≡ true = rw (← ek) e3 in rw (e1, e2, f)
+
+      pub turn-read : ltb (length out) (k * 480) ≡ false → (t : Turn) (o : List ℕ) → t ≡ turned r (ran (keysOf r) (r .progress) (cut k given))
+          → o ≡ over (ran (keysOf r) (r .progress) (cut k given) .out) out → (t, o) ≡ turnOf r given asked out
+      unfolding turnOf
+      turn-read e3 t o et eo =
+          let f : ltb (length out) (handled given asked * 480) ≡ false = rw (← ek) e3 in
+          ap₂ (λ (x : Turn) (y : List ℕ). (x, y)) et eo ∙ rw (e1, e2, f, ek)
+
+-- ---- a turn over the tables that the call makes
+
+module _ (r : Reader) (given : List ℕ) (k : ℕ) (t t' : List ℕ) (pt : t ≡ tabulate 256 sBox) (pi : t' ≡ tabulate 256 invSBox) (h : k * 512 ≤ length given) (b : Bytes given) where
+  reading : Reading
+  reading = ran (lentKeys t t' (r .enc .words) (r .chk .words) (record { enc = r .enc .rounds; chk = r .chk .rounds })) (r .progress) (cut k given)
+
+  reading-is : reading ≡ ran (keysOf r) (r .progress) (cut k given)
+  unfolding reading
+  reading-is = ran-same t t' pt pi (r .enc .words) (r .chk .words) (record { enc = r .enc .rounds; chk = r .chk .rounds }) k (r .progress) given h b
+
+  pub turned-by : (x : Ran)
+      → x ≡ ranOf (ran (lentKeys t t' (r .enc .words) (r .chk .words) (record { enc = r .enc .rounds; chk = r .chk .rounds })) (r .progress) (cut k given))
+      → _≡_ {A = Turn} (record { reader = record { enc = r .enc; chk = r .chk; progress = x .progress }; accepted = x .accepted; bytes = x .bytes; stop = x .stop })
+      (turned r (ran (keysOf r) (r .progress) (cut k given)))
+  unfolding reading
+  turned-by x ex = rw ex (ap (turned r) reading-is)
+
+  pub handed-by : (out o : List ℕ)
+      → o ≡ over (ran (lentKeys t t' (r .enc .words) (r .chk .words) (record { enc = r .enc .rounds; chk = r .chk .rounds })) (r .progress) (cut k given) .out) out
+      → o ≡ over (ran (keysOf r) (r .progress) (cut k given) .out) out
+  unfolding reading
+  handed-by out o eo = eo ∙ ap (λ (x : Reading). over (x .out) out) reading-is
+
+-- ---- both keys
+
+module _ (ekey ckey t : List ℕ) (e c : Expanded) (pt : t ≡ tabulate 256 sBox) (pe : e ≡ scheduleOf (entry t) ekey) (pc : c ≡ scheduleOf (entry t) ckey) where
+  schedule-is : (key : List ℕ) (x : Expanded) → x ≡ scheduleOf (entry t) key → x ≡ scheduleOf sBox key
+  schedule-is key x px = px ∙ ap (λ (y : List ℕ). scheduleOf (entry y) key) pt ∙ schedule-table sBox key
+
+  enc-is : e ≡ scheduleOf sBox ekey
+  enc-is = schedule-is ekey e pe
+
+  chk-is : c ≡ scheduleOf sBox ckey
+  chk-is = schedule-is ckey c pc
+
+  pub start-taken : (x : ReadStarted) → bothTaken e c ≡ true → x ≡ startWith Taken (e .schedule) (c .schedule) → x ≡ startOf ekey ckey
+  unfolding startOf
+  start-taken x b ex = ex ∙ sym (rw (← enc-is, ← chk-is, b))
+
+  pub start-refused : (x : ReadStarted) → bothTaken e c ≡ false → x ≡ startWith KeyLength noSchedule noSchedule → x ≡ startOf ekey ckey
+  unfolding startOf
+  start-refused x b ex = ex ∙ sym (rw (← enc-is, ← chk-is, b))
+
+  module _ (number count : ℕ) (payload out : List ℕ) (a : WriteAnswer) (pa : a ≡ writeRuled (bothTaken e c) number count (length payload) (length out)) where
+    pub write-answered : a ≡ writeAnswer ekey ckey number count payload out
+    unfolding writeAnswer
+    write-answered = pa ∙ ap₂ (λ (x y : Expanded). writeRuled (bothTaken x y) number count (length payload) (length out)) enc-is chk-is
+
+    -- what the tests of a block that is written have shown
+    record Passed : Type 0 where
+      keys : bothTaken e c ≡ true
+      len : length payload ≤ 480
+      room : 512 ≤ length out
+
+    passed : a ≡ Written → Passed
+    unfolding writeRuled lengthFits
+    passed q = go (bothTaken e c) refl (countFits count) (ltb number count) (lengthFits number count (length payload)) refl (ltb (length out) 512) refl (sym pa ∙ q)
+      where
+        least : (t u v : Bool) → choose t (leb (length payload) 480 && u) v ≡ true → (v ≡ true → length payload ≤ 480) → length payload ≤ 480
+        least true u v f g = leb-true (length payload) 480 (first (leb (length payload) 480) u f)
+          where
+            first : (x y : Bool) → (x && y) ≡ true → x ≡ true
+            first true y z = refl
+            first false y z = z
+        least false u v f g = g f
+
+        go : (k : Bool) → bothTaken e c ≡ k → (n m l : Bool) → lengthFits number count (length payload) ≡ l → (o : Bool) → ltb (length out) 512 ≡ o
+            → choose (not k) WriteKey (choose (not n) WriteCount (choose (not m) WriteNumber (choose (not l) WriteLength (choose o WriteRoom Written)))) ≡ Written → Passed
+        go true ek true true true el false eo f = record {
+          keys = ek;
+          len = least (eqb (number + 1) count) (ltb 0 (length payload) || eqb count 1) (eqb (length payload) 480) el (λ v. let y = eqb-true (length payload) 480 v in omega arith);
+          room = ltb-false (length out) 512 eo;
+        }
+        go true ek true true true el true eo f = let y : _≡_ {A = ℕ} 0 1 = cc in absurd (omega arith)
+        go true ek true true false el o eo f = let y : _≡_ {A = ℕ} 0 1 = cc in absurd (omega arith)
+        go true ek true false l el o eo f = let y : _≡_ {A = ℕ} 0 1 = cc in absurd (omega arith)
+        go true ek false m l el o eo f = let y : _≡_ {A = ℕ} 0 1 = cc in absurd (omega arith)
+        go false ek n m l el o eo f = let y : _≡_ {A = ℕ} 0 1 = cc in absurd (omega arith)
+
+    pub write-fits : a ≡ Written → (length payload ≤ 480) × (512 ≤ length out)
+    write-fits q = let p = passed q in (p .len, p .room)
+
+    enc-taken : a ≡ Written → keyNumber (scheduleOf sBox ekey .answer) ≡ 0
+    enc-taken q = ap (λ (x : Expanded). keyNumber (x .answer)) (sym enc-is) ∙ eqb-true (keyNumber (e .answer)) 0 (first (eqb (keyNumber (e .answer)) 0) (eqb (keyNumber (c .answer)) 0) (passed q .keys))
+      where
+        first : (x y : Bool) → (x && y) ≡ true → x ≡ true
+        first true y z = refl
+        first false y z = z
+
+    pub written-by : (release : ℕ) (t' o : List ℕ) → t' ≡ tabulate 256 invSBox → Bytes payload → a ≡ Written
+        → o ≡ over (sealed (lentBoth t t' (e .schedule .words) (e .schedule .rounds)) (lent t (c .schedule .words) (c .schedule .rounds)) [] (headFor number count release (length payload)) payload) out
+        → o ≡ writeOutput a ekey ckey number count release payload out
+    written-by release t' o pi bp q po =
+        let h = headFor number count release (length payload) in
+        let x = scheduleOf sBox ekey .schedule in
+        let y = scheduleOf sBox ckey .schedule in
+        po ∙ rw (q, enc-is, chk-is)
+        (ap (λ (b : List ℕ). over b out) (sealed-same t t' pt pi (x .words) (y .words) (x .rounds) (y .rounds) (key-lawful ekey (enc-taken q)) h payload (passed q .len) bp))
+
+-- an answer that is not the first case leaves the output as it was
+pub write-kept : (a : WriteAnswer) (ekey ckey : List ℕ) (number count release : ℕ) (payload out : List ℕ) → OneOf (1 ∷ 2 ∷ 3 ∷ 4 ∷ 5 ∷ []) (tagOf the-type a)
+    → out ≡ writeOutput a ekey ckey number count release payload out
+write-kept Written ekey ckey number count release payload out h = absurd (miss (1 ∷ 2 ∷ 3 ∷ 4 ∷ 5 ∷ []) 0 tt h)
+write-kept WriteKey ekey ckey number count release payload out h = refl
+write-kept WriteCount ekey ckey number count release payload out h = refl
+write-kept WriteNumber ekey ckey number count release payload out h = refl
+write-kept WriteLength ekey ckey number count release payload out h = refl
+write-kept WriteRoom ekey ckey number count release payload out h = refl

@@ -1,0 +1,6 @@
+pub mod Bytes
+pub mod Judged
+pub mod Agree
+pub mod Calls
+pub mod Sealing
+pub mod Blockwise

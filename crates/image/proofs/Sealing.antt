@@ -1,0 +1,85 @@
+-- The output that a block was written into, step by step, is the sealed block and the rest as it was. Assumes nothing.
+use mathlib.Core.Path.{_≡_, refl, sym, ap, ap₂, _∙_}
+use mathlib.Core.List.{List, [], _++_, append-nil, append-assoc}
+use Prim.Native.Nat.{ℕ, _+_, _≤_}
+use native.Mathlib.Omega.{arith}
+use lib.ListN.{length, take, drop, length-append, length-drop}
+use lib.Seq.{take-all, take-at, drop-at, drop-drop, length-take-le}
+use Rattle.octets.specs.Octets.{padTo}
+use Rattle.octets.specs.Blocks.{BlockCipher}
+use Rattle.octets.proofs.Fill.{length-padTo}
+use Rattle.blocks.specs.Blocks.{blockPut}
+use Rattle.blocks.proofs.Laws.{block-put}
+use Rattle.modes.specs.Modes.{moded, over, through}
+use Rattle.modes.specs.declared.Mode.the-variants.{Cbc}
+use Rattle.modes.specs.declared.Way.the-variants.{Encrypt}
+use Rattle.modes.proofs.Agree.{through-whole}
+use Rattle.cmac.specs.Cmac.{cmac}
+use Rattle.header.specs.Layout.{headBytes}
+use Rattle.header.specs.declared.Head.{Head}
+use Rattle.header.proofs.Laws.{head-octets}
+use Rattle.image.specs.Sealed.{front, sealed}
+
+-- a block in the place of 16 bytes
+put-is : (s : List ℕ) (at : ℕ) (b : List ℕ) → at + 16 ≤ length s → length b ≡ 16 → blockPut s at b ≡ take at s ++ (b ++ drop (at + 16) s)
+put-is s at b h e =
+    block-put s at h b ∙ ap (λ (x : List ℕ). take at s ++ x ++ drop (at + 16) s) (take-all 16 b (omega arith)) ∙ append-assoc (take at s) b (drop (at + 16) s)
+
+module _ (c k : BlockCipher) (h : Head) (payload out : List ℕ) (lp : length payload ≤ 480) (lo : 512 ≤ length out)
+    (first iv plain o1 body o2 made o3 : List ℕ) (e1 : first ≡ headBytes h) (e2 : iv ≡ c .enc first) (e3 : plain ≡ padTo 480 payload) (e4 : o1 ≡ blockPut out 0 first)
+    (e5 : body ≡ through c Cbc Encrypt iv plain (take 480 (drop 16 o1))) (l5 : length body ≡ length (take 480 (drop 16 o1)))
+    (e6 : o2 ≡ take 16 o1 ++ (body ++ drop 480 (drop 16 o1))) (e7 : made ≡ cmac k (take 496 o2)) (l7 : length made ≡ 16) (e8 : o3 ≡ blockPut o2 496 made) where
+  first-size : length first ≡ 16
+  first-size = ap length e1 ∙ head-octets h .size
+
+  plain-size : length plain ≡ 480
+  plain-size = ap length e3 ∙ length-padTo 480 payload lp
+
+  after-head : o1 ≡ first ++ drop 16 out
+  after-head = e4 ∙ put-is out 0 first (omega arith) first-size
+
+  middle-size : length (take 480 (drop 16 o1)) ≡ 480
+  middle-size = length-take-le 480 (drop 16 o1) (omega (arith, length-drop 16 o1, ap length after-head, length-append first (drop 16 out), first-size, length-drop 16 out))
+
+  body-is : body ≡ moded c Cbc Encrypt (c .enc (headBytes h)) (padTo 480 payload)
+  body-is =
+      e5 ∙ through-whole c Cbc Encrypt iv plain (take 480 (drop 16 o1)) (rw plain-size refl) (plain-size ∙ sym middle-size)
+      ∙ ap₂ (λ (x y : List ℕ). moded c Cbc Encrypt x y) (e2 ∙ ap (c .enc) e1) e3
+
+  front-is : first ++ body ≡ front c h payload
+  unfolding front
+  front-is = ap₂ _++_ e1 body-is
+
+  front-size : length (first ++ body) ≡ 496
+  front-size = omega (arith, length-append first body, first-size, l5, middle-size)
+
+  after-body : o2 ≡ (first ++ body) ++ drop 496 out
+  after-body =
+      e6 ∙ ap₂ (λ (x y : List ℕ). x ++ (body ++ y)) (ap (take 16) after-head ∙ take-at first (drop 16 out) 16 first-size)
+      (ap (λ (x : List ℕ). drop 480 (drop 16 x)) after-head ∙ ap (drop 480) (drop-at first (drop 16 out) 16 first-size) ∙ drop-drop 480 16 out)
+      ∙ sym (append-assoc first body (drop 496 out))
+
+  front-taken : take 496 o2 ≡ first ++ body
+  front-taken = ap (take 496) after-body ∙ take-at (first ++ body) (drop 496 out) 496 front-size
+
+  rest-left : drop 512 o2 ≡ drop 512 out
+  rest-left =
+      ap (drop 512) after-body ∙ sym (drop-drop 16 496 ((first ++ body) ++ drop 496 out)) ∙ ap (drop 16) (drop-at (first ++ body) (drop 496 out) 496 front-size) ∙ drop-drop 16 496 out
+
+  made-is : made ≡ cmac k (front c h payload ++ [])
+  made-is = e7 ∙ ap (cmac k) (front-taken ∙ front-is ∙ sym (append-nil (front c h payload)))
+
+  sealed-is : (first ++ body) ++ made ≡ sealed c k [] h payload
+  unfolding sealed
+  sealed-is = ap₂ _++_ front-is made-is
+
+  sealed-size : length (sealed c k [] h payload) ≡ 512
+  sealed-size = omega (arith, ap length sealed-is, length-append (first ++ body) made, front-size)
+
+  pub seal-by : o3 ≡ over (sealed c k [] h payload) out
+  seal-by =
+      let room : 496 + 16 ≤ length o2 = omega (arith, ap length after-body, length-append (first ++ body) (drop 496 out), front-size, length-drop 496 out) in
+      e8 ∙ put-is o2 496 made room l7
+      ∙ ap₂ (λ (x y : List ℕ). x ++ (made ++ y)) front-taken rest-left
+      ∙ sym (append-assoc (first ++ body) made (drop 512 out))
+      ∙ ap₂ (λ (x : List ℕ) (n : ℕ). x ++ drop n out) sealed-is (sym sealed-size)

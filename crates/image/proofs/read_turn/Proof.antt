@@ -1,0 +1,93 @@
+use Rattle.image.proofs.Calls.{turn-asked, turn-lent, turn-room, turn-read, asked-most}
+use Rattle.image.proofs.Bytes.{flip}
+use Rattle.image.specs.declared.Turn.{Turn}
+use borrow.Author.Tests.{eq-eqb, ne-eqb, lt-ltb, le-ltb}
+use lib.ListN.{length}
+use native.Mathlib.Nat.{min-le-left, min-le-right}
+use Prim.Native.Nat.{_/_}
+use mathlib.Core.Path.{sym, ap, _∙_}
+use native.Mathlib.Omega.{arith}
+use borrow.Author.Needs.{needs}
+use Rattle.image.proofs.read_turn.Statement.{statement}
+use Rattle.image.proofs.read_turn.Tie as tie
+
+may-ask-requires : tie.Need-may-ask-requires
+may-ask-requires c κs = search needs
+
+stopped-requires : tie.Need-stopped-requires
+stopped-requires c κs = search needs
+
+returns : tie.Need-returns
+returns c =
+    let m = c .before .before in
+    let a = m .before .before .before .args in
+    ap (λ (x : Turn). (x, a .output .now)) (c .stopped .ensures) ∙ turn-asked (a .reader) (a .blocks .now) (a .asked) (a .output .now) (sym (m .may-ask .ensures) ∙ flip _ (c .before .if1 .taken))
+
+stopped-requires-2 : tie.Need-stopped-requires-2
+stopped-requires-2 c κs = search needs
+
+returns-2 : tie.Need-returns-2
+returns-2 c =
+    let n = c .before .before in
+    let m = n .before in
+    let a = m .before .before .before .args in
+    ap (λ (x : Turn). (x, a .output .now)) (c .stopped2 .ensures) ∙ turn-lent (a .reader) (a .blocks .now) (a .asked) (a .output .now) (sym (m .may-ask .ensures) ∙ flip _ (n .if1 .left)) (ne-eqb _ _ (c .before .if2 .taken))
+
+least-requires : tie.Need-least-requires
+least-requires c κs = search needs
+
+mul-if3 : tie.Need-mul-if3
+mul-if3 c = search needs
+
+stopped-requires-3 : tie.Need-stopped-requires-3
+stopped-requires-3 c κs = search needs
+
+returns-3 : tie.Need-returns-3
+returns-3 c =
+    let p = c .before .before .before in
+    let n = p .before in
+    let m = n .before in
+    let a = m .before .before .before .args in
+    ap (λ (x : Turn). (x, a .output .now)) (c .stopped3 .ensures)
+    ∙ turn-room (a .reader) (a .blocks .now) (a .asked) (a .output .now) (sym (m .may-ask .ensures) ∙ flip _ (n .if1 .left)) (eq-eqb _ _ (p .if2 .left)) _ (c .before .before .least .ensures) (lt-ltb _ _ (c .before .if3 .taken))
+
+turned-requires : tie.Need-turned-requires
+turned-requires c κs =
+    let p = c .before .before .before in
+    let n = p .before in
+    let m = n .before in
+    let a = m .before .before .before .args in
+    let x = a .asked in
+    let y = length (a .blocks .now) / 512 in
+    let h = asked-most (a .reader) (a .blocks .now) x (a .output .now) (sym (m .may-ask .ensures) ∙ flip _ (n .if1 .left)) in
+    omega (arith, c .before .before .least .ensures, min-le-left x y, min-le-right x y, h)
+
+same-length : tie.Need-same-length
+same-length c = search needs
+
+returns-4 : tie.Need-returns-4
+returns-4 c =
+    let q = c .before .before .before .before in
+    let p = q .before .before in
+    let n = p .before in
+    let m = n .before in
+    let a = m .before .before .before .args in
+    turn-read (a .reader) (a .blocks .now) (a .asked) (a .output .now) (sym (m .may-ask .ensures) ∙ flip _ (n .if1 .left)) (eq-eqb _ _ (p .if2 .left)) _ (q .before .least .ensures) (le-ltb _ _ (q .if3 .left))
+    _ _ (c .before .before .turned .ensures .0) (c .before .before .turned .ensures .1)
+
+pub read-turn-spec : {M : Type 1} → statement M
+read-turn-spec =
+    tie.close
+    (tie.spec
+    may-ask-requires
+    stopped-requires
+    returns
+    stopped-requires-2
+    returns-2
+    least-requires
+    mul-if3
+    stopped-requires-3
+    returns-3
+    turned-requires
+    same-length
+    returns-4)

@@ -1,0 +1,5 @@
+pub mod Sealed
+pub mod Judge
+pub mod Turn
+pub mod Calls
+pub mod Lent

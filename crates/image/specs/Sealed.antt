@@ -1,0 +1,51 @@
+-- One block, sealed and opened, over any two block ciphers (document 01, 'Image blocks'). Assumes nothing: these are definitions.
+use Prim.Native.Nat.{ℕ, zero}
+use mathlib.Core.Bool.{Bool, true, _&&_}
+use mathlib.Core.List.{List, [], _∷_, _++_}
+use lib.Dec.{eqb}
+use lib.ListN.{take, drop}
+use Rattle.octets.specs.Octets.{padTo}
+use Rattle.octets.specs.Blocks.{BlockCipher}
+use Rattle.blocks.specs.Blocks.{same}
+use Rattle.modes.specs.Modes.{moded}
+use Rattle.modes.specs.declared.Mode.the-variants.{Cbc}
+use Rattle.modes.specs.declared.Way.the-variants.{Encrypt, Decrypt}
+use Rattle.cmac.specs.Cmac.{cmac}
+use Rattle.header.specs.Layout.{headSize, bodySize, checkAt, headOf, headBytes}
+use Rattle.header.specs.declared.Head.{Head}
+
+-- ---- the writer's side
+
+-- payload, then zero fill
+abbrev pub filled : List ℕ → List ℕ
+filled p = padTo bodySize p
+
+-- bytes 0 to 495: the header, and payload and fill in CBC, whose IV is the header enciphered
+unfoldable pub front : BlockCipher → Head → List ℕ → List ℕ
+front ek h p = headBytes h ++ moded ek Cbc Encrypt (ek .enc (headBytes h)) (filled p)
+
+-- what the check covers: bytes 0 to 495, then a tail, which is empty in every image of today
+abbrev pub covered : (front tail : List ℕ) → List ℕ
+covered front tail = front ++ tail
+
+-- the whole block, of the encryption key's cipher and the check key's
+unfoldable pub sealed : (ek ck : BlockCipher) (tail : List ℕ) → Head → List ℕ → List ℕ
+sealed ek ck tail h p = front ek h p ++ cmac ck (covered (front ek h p) tail)
+
+-- ---- the reader's side
+
+-- the 480 decrypted bytes
+unfoldable pub opened : BlockCipher → List ℕ → List ℕ
+opened ek b = moded ek Cbc Decrypt (ek .enc (take headSize b)) (take bodySize (drop headSize b))
+
+-- bytes 496 to 511 are the check, all sixteen
+unfoldable pub checks : BlockCipher → (tail b : List ℕ) → Bool
+checks ck tail b = same (cmac ck (covered (take checkAt b) tail)) (drop checkAt b)
+
+abbrev pub allZero : List ℕ → Bool
+allZero [] = true
+allZero (x ∷ s) = eqb x 0 && allZero s
+
+-- what follows the payload is zero
+unfoldable pub fillZero : BlockCipher → List ℕ → Bool
+fillZero ek b = allZero (drop (headOf b .len) (opened ek b))

@@ -1,0 +1,283 @@
+// Release images: a writer of blocks, and a reader that takes them in turns.
+mod body;
+mod turns;
+
+use crate::body::seal;
+use crate::turns::run;
+use header::Head;
+use header::Progress;
+use header::Reason;
+use header::count_fits;
+use header::length_fits;
+use sbox::inv_table;
+use sbox::table;
+use schedule::KeyAnswer;
+use schedule::KeySchedule;
+ghost use mathlib.Core.Path.{_≡_};
+ghost use mathlib.Core.Bool.{_&&_};
+ghost use Prim.Native.Nat.{_*_, _≤_, min};
+ghost use lib.Dec.{eqb, ltb, leb};
+ghost use lib.ListN.{length};
+ghost use Rattle.schedule.specs.Schedule.{keyNumber};
+ghost use Rattle.modes.specs.Modes.{over};
+ghost use Rattle.image.specs.Turn.{ran, cut};
+ghost use Rattle.image.specs.Calls as spec;
+
+pub enum WriteAnswer {
+    Written,
+    WriteKey,
+    WriteCount,
+    WriteNumber,
+    WriteLength,
+    WriteRoom,
+}
+
+// The schedules of the encryption key and of the check key, and how far the reader has come.
+pub struct Reader {
+    pub enc: KeySchedule,
+    pub chk: KeySchedule,
+    pub progress: Progress,
+}
+
+// The answer for the keys, and the reader: zeros where a key was refused.
+pub struct ReadStarted {
+    pub answer: KeyAnswer,
+    pub reader: Reader,
+}
+
+// How a turn stopped: at the end of what it was to do, refused as a whole, or at a block, whose place in the turn it names.
+pub enum Stop {
+    End,
+    Asked,
+    Lent,
+    Room,
+    At(usize, Reason),
+}
+
+// The reader after a turn, the blocks accepted, the sum of their payload lengths, and how it stopped.
+pub struct Turn {
+    pub reader: Reader,
+    pub accepted: usize,
+    pub bytes: usize,
+    pub stop: Stop,
+}
+
+pub enum Completion {
+    Complete,
+    NotComplete,
+}
+
+// The rounds of the two schedules, where their words are lent.
+pub struct Rounds {
+    pub enc: usize,
+    pub chk: usize,
+}
+
+// Seals a payload into the first 512 bytes of the output, as one block of an image.
+// A refused call leaves the output as it was, and so do bytes of it past the block.
+pub fn write(
+    ekey: &[u8],
+    ckey: &[u8],
+    number: u32,
+    count: u32,
+    release: u32,
+    payload: &[u8],
+    output: &mut [u8],
+) -> WriteAnswer
+    ensures answer { λ r. ⌜ r ≡ spec.writeAnswer (now (ekey .entry)) (now (ckey .entry)) number count (now (payload .entry)) (now (output .entry)) ⌝ }
+    ensures written { λ r. ⌜ now (output .exit) ≡ spec.writeOutput r (now (ekey .entry)) (now (ckey .entry)) number count release (now (payload .entry)) (now (output .entry)) ⌝ }
+{
+    let sbox = table();
+    let made_e = KeySchedule::with(&sbox, ekey);
+    let made_c = KeySchedule::with(&sbox, ckey);
+    let eanswer = made_e.answer;
+    let canswer = made_c.answer;
+    let keys = both_taken(eanswer, canswer);
+    let answer = judge_write(keys, number, count, payload.len(), output.len());
+    let WriteAnswer::Written = answer else {
+        return answer;
+    };
+    let inv = inv_table();
+    let enc = made_e.schedule;
+    let chk = made_c.schedule;
+    let ewords = enc.words;
+    let cwords = chk.words;
+    let rounds = Rounds {
+        enc: enc.rounds,
+        chk: chk.rounds,
+    };
+    let head = Head {
+        number,
+        count,
+        release,
+        len: payload.len() as u16,
+        reserved: 0,
+    };
+    seal(&sbox, &inv, &ewords, &cwords, rounds, head, payload, output);
+    answer
+}
+
+// A reader that expects block 0.
+pub fn read_start(ekey: &[u8], ckey: &[u8]) -> ReadStarted
+    ensures { λ r. ⌜ r ≡ spec.startOf (now (ekey .entry)) (now (ckey .entry)) ⌝ }
+{
+    let sbox = table();
+    let made_e = KeySchedule::with(&sbox, ekey);
+    let made_c = KeySchedule::with(&sbox, ckey);
+    let eanswer = made_e.answer;
+    let canswer = made_c.answer;
+    let enc = made_e.schedule;
+    let chk = made_c.schedule;
+    if both_taken(eanswer, canswer) {
+        return started(KeyAnswer::Taken, enc, chk);
+    }
+    let none = KeySchedule {
+        words: [0u32; 60],
+        rounds: 0,
+    };
+    started(KeyAnswer::KeyLength, none, none)
+}
+
+// Takes the lent blocks in, as many as asked for, up to the first that is refused; the decrypted bytes of block j of the turn
+// go into the output at 480 j. Nothing of a refused block reaches the output or the reader, so it may be offered again.
+pub fn read_turn(reader: Reader, blocks: &[u8], asked: usize, output: &mut [u8]) -> Turn
+    ensures { λ r. ⌜ (r, now (output .exit)) ≡ spec.turnOf reader (now (blocks .entry)) asked (now (output .entry)) ⌝ }
+{
+    if !may_ask(asked) {
+        return stopped(reader, Stop::Asked);
+    }
+    if blocks.len() % 512 != 0 {
+        return stopped(reader, Stop::Lent);
+    }
+    let k = least(asked, blocks.len() / 512);
+    if output.len() < k * 480 {
+        return stopped(reader, Stop::Room);
+    }
+    turned(reader, blocks, k, output)
+}
+
+// Whether the last block has been accepted.
+pub fn read_complete(reader: Reader) -> Completion
+    ensures { λ r. ⌜ r ≡ spec.completionOf reader ⌝ }
+{
+    if header::complete(reader.progress) {
+        return Completion::Complete;
+    }
+    Completion::NotComplete
+}
+
+fn both_taken(ekey: KeyAnswer, ckey: KeyAnswer) -> bool
+    ensures { λ r. ⌜ r ≡ eqb (keyNumber ekey) 0 && eqb (keyNumber ckey) 0 ⌝ }
+{
+    let KeyAnswer::Taken = ekey else {
+        return false;
+    };
+    let KeyAnswer::Taken = ckey else {
+        return false;
+    };
+    true
+}
+
+// The writer's answer, from that for the keys and the lengths of payload and output.
+fn judge_write(keys: bool, number: u32, count: u32, len: usize, room: usize) -> WriteAnswer
+    ensures { λ r. ⌜ r ≡ spec.writeRuled keys number count len room ⌝ }
+{
+    if !keys {
+        return WriteAnswer::WriteKey;
+    }
+    if !count_fits(count) {
+        return WriteAnswer::WriteCount;
+    }
+    if number >= count {
+        return WriteAnswer::WriteNumber;
+    }
+    if !length_fits(number, count, len) {
+        return WriteAnswer::WriteLength;
+    }
+    if room < 512 {
+        return WriteAnswer::WriteRoom;
+    }
+    WriteAnswer::Written
+}
+
+fn started(answer: KeyAnswer, enc: KeySchedule, chk: KeySchedule) -> ReadStarted
+    ensures { λ r. ⌜ r ≡ spec.startWith answer enc chk ⌝ }
+{
+    ReadStarted {
+        answer,
+        reader: Reader {
+            enc,
+            chk,
+            progress: Progress {
+                next: 0,
+                fixed: false,
+                count: 0,
+                release: 0,
+            },
+        },
+    }
+}
+
+fn may_ask(asked: usize) -> bool
+    ensures { λ r. ⌜ r ≡ ltb 0 asked && leb asked 128 ⌝ }
+{
+    if asked == 0 {
+        return false;
+    }
+    asked <= 128
+}
+
+fn least(a: usize, b: usize) -> usize
+    ensures { λ r. ⌜ r ≡ min a b ⌝ }
+{
+    if a < b { a } else { b }
+}
+
+// A turn that is refused as a whole.
+fn stopped(reader: Reader, why: Stop) -> Turn
+    ensures { λ r. ⌜ r ≡ spec.whole reader why ⌝ }
+{
+    Turn {
+        reader,
+        accepted: 0,
+        bytes: 0,
+        stop: why,
+    }
+}
+
+// A turn over k blocks that has passed its own tests: the tables are laid out once, and the schedules lent.
+fn turned(reader: Reader, blocks: &[u8], k: usize, output: &mut [u8]) -> Turn
+    requires { ⌜ (k * 512 ≤ length (now blocks)) × (k * 480 ≤ length (now output)) × (k ≤ 128) ⌝ }
+    ensures answer { λ r. ⌜ r ≡ spec.turned reader (ran (spec.keysOf reader) (reader .progress) (cut k (now (blocks .entry)))) ⌝ }
+    ensures handed { λ _. ⌜ now (output .exit) ≡ over (ran (spec.keysOf reader) (reader .progress) (cut k (now (blocks .entry))) .out) (now (output .entry)) ⌝ }
+{
+    let sbox = table();
+    let inv = inv_table();
+    let enc = reader.enc;
+    let chk = reader.chk;
+    let ewords = enc.words;
+    let cwords = chk.words;
+    let rounds = Rounds {
+        enc: enc.rounds,
+        chk: chk.rounds,
+    };
+    let done = run(
+        &sbox,
+        &inv,
+        &ewords,
+        &cwords,
+        rounds,
+        reader.progress,
+        blocks,
+        k,
+        output,
+    );
+    let progress = done.progress;
+    let stop = done.stop;
+    Turn {
+        reader: Reader { enc, chk, progress },
+        accepted: done.accepted,
+        bytes: done.bytes,
+        stop,
+    }
+}

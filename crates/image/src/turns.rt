@@ -1,0 +1,187 @@
+// The reader's way through the blocks of a turn.
+use crate::Rounds;
+use crate::Stop;
+use crate::body::check_holds;
+use crate::body::opened;
+use crate::body::put;
+use crate::body::zero_from;
+use blocks::load;
+use header::Head;
+use header::Progress;
+use header::Reason;
+use header::Verdict;
+use header::head_of;
+use header::judge_head;
+ghost use mathlib.Core.Path.{_≡_};
+ghost use Prim.Native.Nat.{_+_, _*_, _≤_, _<_};
+ghost use lib.ListN.{length};
+ghost use Rattle.header.specs.declared.Verdict.the-variants.{Accepted};
+ghost use Rattle.modes.specs.Modes.{over};
+ghost use Rattle.image.specs.Sealed as sealed;
+ghost use Rattle.image.specs.Judge.{judge, taken};
+ghost use Rattle.image.specs.Turn as spec;
+ghost use Rattle.image.specs.Lent.{lentBoth, lentKeys, outAfter, tookAfter, ranOf};
+
+// What a block did: the verdict, the progress after it, and the length of its payload, 0 where it was refused.
+pub struct Took {
+    pub verdict: Verdict,
+    pub progress: Progress,
+    pub len: u16,
+}
+
+// What a turn's blocks did.
+pub struct Ran {
+    pub progress: Progress,
+    pub accepted: usize,
+    pub bytes: usize,
+    pub stop: Stop,
+}
+
+// Judges a block, and puts its decrypted bytes into the output where it is accepted: of a refused block nothing gets there.
+fn read_block(
+    sbox: &[u8; 256],
+    inv: &[u8; 256],
+    ewords: &[u32; 60],
+    cwords: &[u32; 60],
+    rounds: Rounds,
+    progress: Progress,
+    block: &[u8],
+    output: &mut [u8],
+    at: usize,
+) -> Verdict
+    requires { ⌜ (length (now block) ≡ 512) × (at + 480 ≤ length (now output)) ⌝ }
+    ensures judged { λ r. ⌜ r ≡ judge (lentKeys (now (sbox .entry)) (now (inv .entry)) (now (ewords .entry)) (now (cwords .entry)) rounds) progress (now (block .entry)) ⌝ }
+    ensures handed { λ r. ⌜ now (output .exit) ≡ outAfter r (sealed.opened (lentBoth (now (sbox .entry)) (now (inv .entry)) (now (ewords .entry)) (rounds .enc)) (now (block .entry))) at (now (output .entry)) ⌝ }
+    ensures sized { λ r. ⌜ (r ≡ Accepted → length (sealed.opened (lentBoth (now (sbox .entry)) (now (inv .entry)) (now (ewords .entry)) (rounds .enc)) (now (block .entry))) ≡ 480) ⌝ }
+{
+    if header::complete(progress) {
+        return Verdict::Refused(Reason::AfterLast);
+    }
+    if !check_holds(sbox, cwords, rounds, block) {
+        return Verdict::Refused(Reason::CheckWrong);
+    }
+    let head = head_of(load(block, 0));
+    let verdict = judge_head(progress, head);
+    let Verdict::Accepted = verdict else {
+        return verdict;
+    };
+    let plain = opened(sbox, inv, ewords, rounds.enc, block);
+    if !zero_from(&plain, head.len as usize) {
+        return Verdict::Refused(Reason::FillNotZero);
+    }
+    put(&plain, output, at);
+    Verdict::Accepted
+}
+
+fn advanced(progress: Progress, head: Head) -> Progress
+    requires { ⌜ progress .next < 65535 ⌝ }
+    ensures { λ r. ⌜ r ≡ taken progress head ⌝ }
+{
+    Progress {
+        next: progress.next + 1,
+        fixed: true,
+        count: head.count,
+        release: head.release,
+    }
+}
+
+// Takes a block that is accepted into account.
+fn take_block(
+    sbox: &[u8; 256],
+    inv: &[u8; 256],
+    ewords: &[u32; 60],
+    cwords: &[u32; 60],
+    rounds: Rounds,
+    progress: Progress,
+    block: &[u8],
+    output: &mut [u8],
+    at: usize,
+) -> Took
+    requires { ⌜ (length (now block) ≡ 512) × (at + 480 ≤ length (now output)) ⌝ }
+    ensures took { λ r. ⌜ r ≡ tookAfter (judge (lentKeys (now (sbox .entry)) (now (inv .entry)) (now (ewords .entry)) (now (cwords .entry)) rounds) progress (now (block .entry))) progress (now (block .entry)) ⌝ }
+    ensures handed { λ r. ⌜ now (output .exit) ≡ outAfter (r .verdict) (sealed.opened (lentBoth (now (sbox .entry)) (now (inv .entry)) (now (ewords .entry)) (rounds .enc)) (now (block .entry))) at (now (output .entry)) ⌝ }
+    ensures sized { λ r. ⌜ (r .verdict ≡ Accepted → length (sealed.opened (lentBoth (now (sbox .entry)) (now (inv .entry)) (now (ewords .entry)) (rounds .enc)) (now (block .entry))) ≡ 480) ⌝ }
+{
+    let verdict = read_block(
+        sbox,
+        inv,
+        ewords,
+        cwords,
+        rounds,
+        progress,
+        block,
+        output,
+        at,
+    );
+    let Verdict::Accepted = verdict else {
+        return Took {
+            verdict,
+            progress,
+            len: 0,
+        };
+    };
+    let head = head_of(load(block, 0));
+    Took {
+        verdict,
+        progress: advanced(progress, head),
+        len: head.len,
+    }
+}
+
+// At most k blocks, up to the first that is refused.
+pub fn run(
+    sbox: &[u8; 256],
+    inv: &[u8; 256],
+    ewords: &[u32; 60],
+    cwords: &[u32; 60],
+    rounds: Rounds,
+    progress: Progress,
+    blocks: &[u8],
+    k: usize,
+    output: &mut [u8],
+) -> Ran
+    requires { ⌜ (k * 512 ≤ length (now blocks)) × (k * 480 ≤ length (now output)) × (k ≤ 128) ⌝ }
+    ensures answer { λ r. ⌜ r ≡ ranOf (spec.ran (lentKeys (now (sbox .entry)) (now (inv .entry)) (now (ewords .entry)) (now (cwords .entry)) rounds) progress (spec.cut k (now (blocks .entry)))) ⌝ }
+    ensures handed { λ _. ⌜ now (output .exit) ≡ over (spec.ran (lentKeys (now (sbox .entry)) (now (inv .entry)) (now (ewords .entry)) (now (cwords .entry)) rounds) progress (spec.cut k (now (blocks .entry))) .out) (now (output .entry)) ⌝ }
+{
+    let mut state = progress;
+    let mut bytes: usize = 0;
+    let mut j: usize = 0;
+    while j < k {
+        let at = j * 512;
+        let took = take_block(
+            sbox,
+            inv,
+            ewords,
+            cwords,
+            rounds,
+            state,
+            &blocks[at..at + 512],
+            output,
+            j * 480,
+        );
+        let verdict = took.verdict;
+        match verdict {
+            Verdict::Refused(reason) => {
+                return Ran {
+                    progress: state,
+                    accepted: j,
+                    bytes,
+                    stop: Stop::At(j, reason),
+                };
+            }
+            Verdict::Accepted => {
+                let next = took.progress;
+                state = next;
+                bytes += took.len as usize;
+            }
+        }
+        j += 1;
+    }
+    Ran {
+        progress: state,
+        accepted: j,
+        bytes,
+        stop: Stop::End,
+    }
+}

@@ -1,0 +1,471 @@
+-- Demands 2 and 3 for images: what is written is read back in any turns, what is damaged is refused, and what a turn accepted, handed out
+-- and left as it was. Assumes nothing.
+use mathlib.Core.Path.{_≡_, refl, sym, ap, ap₂, _∙_, subst}
+use mathlib.Core.Bool.{Bool, true, false}
+use mathlib.Core.List.{List, [], _∷_, _++_}
+use Prim.Native.Nat.{ℕ, _+_, _*_, _≤_, _<_}
+use native.Mathlib.Nat.{add-zero, zero-add}
+use native.Mathlib.Omega.{arith}
+use lib.Dec.{eqb}
+use lib.ListN.{length, getD, take, drop, length-append, length-drop}
+use lib.Seq.{take-at, drop-at}
+use Rattle.octets.specs.Octets.{choose, Bytes, Octets}
+use Rattle.octets.specs.Blocks.{BlockCipher, Lawful}
+use Rattle.octets.proofs.Blocks.{take-bytes, drop-bytes}
+use Rattle.schedule.specs.Schedule.{keyNumber}
+use Rattle.cipher.specs.Cipher.{aesOf}
+use Rattle.cipher.proofs.Lawful.{key-lawful}
+use Rattle.modes.specs.Modes.{over}
+use Rattle.modes.specs.Pieces.{piece}
+use Rattle.cmac.specs.Cmac.{SameOutside}
+use Rattle.cmac.specs.Running.{joined}
+use Rattle.header.specs.Layout.{headOf}
+use Rattle.header.specs.Rules.{done, reasonNumber}
+use Rattle.header.specs.declared.Head.{Head}
+use Rattle.header.specs.declared.Progress.{Progress}
+use Rattle.header.specs.declared.Reason.{Reason}
+use Rattle.header.specs.declared.Reason.the-variants.{AfterLast, CheckWrong, Count, Number, OtherCount, OtherRelease, NotBelow, Length, Reserved, FillNotZero}
+use Rattle.header.specs.declared.Verdict.the-variants.{Accepted, Refused}
+use Rattle.header.proofs.Laws.{Wide}
+use Rattle.image.specs.Sealed.{filled, sealed, opened, checks, fillZero}
+use Rattle.image.specs.Judge.{Keys, judge, taken}
+use Rattle.image.specs.Turn.{ran, cut}
+use Rattle.image.specs.Calls.{writeNumber, writeOutput, writeAnswer, headFor, startOf, keysOf, handled, readingOf, turnOf, stopNumber, completionOf}
+use Rattle.image.specs.declared.WriteAnswer.{WriteAnswer}
+use Rattle.image.specs.declared.WriteAnswer.the-variants.{Written, WriteKey, WriteCount, WriteNumber, WriteLength, WriteRoom}
+use Rattle.image.specs.declared.Reader.{Reader}
+use Rattle.image.specs.declared.Stop.{Stop}
+use Rattle.image.specs.declared.Stop.the-variants.{End, Asked, Lent, Room, At}
+use Rattle.image.specs.declared.Turn.{Turn}
+use Rattle.image.specs.declared.Completion.the-variants.{Complete, NotComplete}
+use Rattle.promises.proofs.ImageTerms.{Met, Says, unchecked, AllMet, Blocks, payload, plains, parts, AllFilled, KeyTaken, Fit, WriteSays, afterWrite, Wrote, blocks, image, inState, readerOf, Waits, moved, FromStart, Sound, given, StopSays, Whole, Lending, AllFair, offered, concat, lendEach, AllFew, readerAfter, AllAccepted, handedOut, counted, andThen}
+use Rattle.promises.proofs.ImageSealed.{sealed-size, sealed-bytes, sealed-checks, sealed-opened, sealed-head, sealed-fill}
+use Rattle.promises.proofs.ImageJudge.{damaged-check, accepted-met, accepted-sealed, verdict-says, met-accepted, fits-count, no-keys}
+use Rattle.promises.proofs.ImageTurn.{out-at, ran-append, ran-state, advance, accepted-le, end-all, ends-or-at, stop-place, ran-met, first-fixes, none-accepted, no-keys-none, ran-out, ran-bytes, met-filled, parts-length}
+use Rattle.promises.proofs.ImageSound.{reached-sound, ran-never-11}
+use Rattle.promises.proofs.ImageWhole.{written-length, Passes, Left, left-fits, written-at, image-blocks, image-parts, image-passes}
+use Rattle.promises.proofs.ImageCalls.{start-keys, output-rest, fresh-start, answer-says, told-turn, keysUnder, start-fresh, start-refused, usable-lawful, fit-written, output-block, cut-length, given-blocks, by-turn, reading-length, reading-le, one-refused, one-accepted}
+use Rattle.promises.proofs.ImageRead.{blocks-split, size, head-is, opens, keys-are, accepts, refuses, turns-read, from-reached}
+
+-- ---- one block, over any two lawful ciphers
+
+-- what is sealed is 512 bytes, its header reads back, its check is right, and it opens to the payload and zero fill
+pub sealed-opens : (ek ck : BlockCipher) → Lawful 16 ek → Lawful 16 ck → (h : Head) (p : List ℕ) → Wide h → length p ≡ h .len → length p ≤ 480 → Bytes p
+    → (tail : List ℕ) → Bytes tail
+    → Octets 512 (sealed ek ck tail h p)
+    × (headOf (sealed ek ck tail h p) ≡ h)
+    × (checks ck tail (sealed ek ck tail h p) ≡ true)
+    × (opened ek (sealed ek ck tail h p) ≡ filled p)
+    × (fillZero ek (sealed ek ck tail h p) ≡ true)
+sealed-opens ek ck le lc h p w e lp bp tail bt = (
+  record { size = sealed-size ek ck le lc h p lp bp tail bt; bytes = sealed-bytes ek ck le lc h p lp bp tail bt },
+  sealed-head ek ck le lc h p lp bp tail bt w,
+  sealed-checks ek ck le lc h p lp bp tail bt,
+  sealed-opened ek ck le lc h p lp bp tail bt,
+  sealed-fill ek ck le lc h p lp bp tail bt w e,
+)
+
+-- a block that is a sealed one outside one piece of 16 bytes, the check being piece 31, and is not that one, has a wrong check
+pub damage-shows : (ek ck : BlockCipher) → Lawful 16 ek → Lawful 16 ck → (tail : List ℕ) (h : Head) (p : List ℕ) → Bytes tail → length p ≤ 480 → Bytes p
+    → (i : ℕ) (d : List ℕ) → length d ≡ 512 → Bytes d → SameOutside i d (sealed ek ck tail h p) → (d ≡ sealed ek ck tail h p → ⊥) → checks ck tail d ≡ false
+damage-shows ek ck le lc tail h p bt lp bp i d ld bd o n = damaged-check ek ck le lc tail h p bt lp bp i d ld bd o n
+
+-- ---- demand 2: refusals come where the table says, and only there
+
+-- a block is accepted where it meets every test; a reason says which it does not meet, and holds the value found
+pub verdict-as-told : (k : Keys) (s : Progress) (b : List ℕ) → Says k s b (judge k s b)
+verdict-as-told k s b = verdict-says k s b
+
+pub met-is-accepted : (k : Keys) (s : Progress) (b : List ℕ) → Met k s b → judge k s b ≡ Accepted
+met-is-accepted k s b m = met-accepted k s b m
+
+-- the writer writes where all holds that it asks; an answer says what does not
+pub write-as-told : (ekey ckey : List ℕ) (number count : ℕ) (payload out : List ℕ)
+    → WriteSays ekey ckey number count (length payload) (length out) (writeAnswer ekey ckey number count payload out)
+write-as-told ekey ckey number count payload out = answer-says ekey ckey number count payload out
+
+pub fit-is-written : (ekey ckey : List ℕ) (number count : ℕ) (payload out : List ℕ) → Fit ekey ckey number count (length payload) (length out)
+    → writeAnswer ekey ckey number count payload out ≡ Written
+fit-is-written ekey ckey number count payload out f =
+    fit-written ekey ckey number count payload out (f .ekey-taken) (f .ckey-taken) (fits-count count (f .count-low) (f .count-high)) (f .below) (f .len-fits) (f .roomy)
+
+-- a start takes both keys, or is refused by 1
+pub start-as-told : (ekey ckey : List ℕ) → keyNumber (startOf ekey ckey .answer) ≡ 0 → KeyTaken ekey × KeyTaken ckey
+start-as-told ekey ckey e = start-keys ekey ckey e
+
+pub start-takes : (ekey ckey : List ℕ) → KeyTaken ekey → KeyTaken ckey → keyNumber (startOf ekey ckey .answer) ≡ 0
+start-takes ekey ckey te tc = start-fresh ekey ckey te tc .0
+
+-- a turn is refused as a whole by 5, 6 or 4 where the table says so; else it stops at its end or at a block
+pub turn-as-told : (r : Reader) (lent : List ℕ) (asked : ℕ) (out : List ℕ) → StopSays lent asked out (turnOf r lent asked out .0 .stop)
+turn-as-told r lent asked out =
+    told-turn r lent asked out (λ (t : Turn × List ℕ). StopSays lent asked out (t .0 .stop)) (λ x. x) (λ x. x) (λ x. x)
+    (λ f.
+    ends-or-at (keysOf r) (r .progress) (given lent asked) (StopSays lent asked out (readingOf r lent asked .stop))
+    (λ q. subst (StopSays lent asked out) (sym q) f) (λ y q. subst (StopSays lent asked out) (sym q) f))
+
+-- ---- demand 2: what the writer leaves
+
+-- it writes the sealed block into the first 512 bytes of the output, and nothing else
+pub write-output : (ekey ckey : List ℕ) (number count release : ℕ) (payload out : List ℕ) → Bytes payload → writeAnswer ekey ckey number count payload out ≡ Written
+    → (take 512 (afterWrite ekey ckey number count release payload out) ≡ sealed (aesOf ekey) (aesOf ckey) [] (headFor number count release (length payload)) payload)
+    × (drop 512 (afterWrite ekey ckey number count release payload out) ≡ drop 512 out)
+write-output ekey ckey number count release payload out bp w =
+    rw w (output-block ekey ckey number count release payload out bp w, output-rest ekey ckey number count release payload out bp w)
+
+pub write-refusal-keeps : (ekey ckey : List ℕ) (number count release : ℕ) (payload out : List ℕ) → (writeNumber (writeAnswer ekey ckey number count payload out) ≡ 0 → ⊥)
+    → afterWrite ekey ckey number count release payload out ≡ out
+write-refusal-keeps ekey ckey number count release payload out = go (writeAnswer ekey ckey number count payload out)
+  where
+    go : (a : WriteAnswer) → (writeNumber a ≡ 0 → ⊥) → writeOutput a ekey ckey number count release payload out ≡ out
+    go Written h = absurd (h refl)
+    go WriteKey h = refl
+    go WriteCount h = refl
+    go WriteNumber h = refl
+    go WriteLength h = refl
+    go WriteRoom h = refl
+
+-- ---- demand 3: what is written is read back
+
+-- a reader under the same keys that waits for it accepts it, and finds the payload and zero fill in it
+pub written-is-accepted : (ekey ckey : List ℕ) (number count release : ℕ) (payload b : List ℕ) → Wrote ekey ckey number count release payload b
+    → (s : Progress) → Waits s number count release
+    → (judge (keysOf (readerOf ekey ckey s)) s b ≡ Accepted) × (opened (aesOf ekey) b ≡ filled payload)
+written-is-accepted ekey ckey number count release payload b w s a =
+    (accepts ekey ckey number count release payload b w s a, opens ekey ckey number count release payload b w)
+
+-- so a turn over it moves that reader on by one, hands out the payload and zero fill, and leaves the rest of the output as it was
+pub written-is-read : (ekey ckey : List ℕ) (number count release : ℕ) (payload b : List ℕ) → Wrote ekey ckey number count release payload b
+    → (s : Progress) → Waits s number count release → (asked : ℕ) (out : List ℕ) → 0 < asked → asked ≤ 128 → 480 ≤ length out
+    → turnOf (readerOf ekey ckey s) b asked out
+    ≡ (record { reader = readerOf ekey ckey (taken s (headFor number count release (length payload))); accepted = 1; bytes = length payload; stop = End }, over (filled payload) out)
+written-is-read ekey ckey number count release payload b w s a asked out la ha lo =
+    one-accepted (readerOf ekey ckey s) b asked out (size ekey ckey number count release payload b w) la ha lo (accepts ekey ckey number count release payload b w s a)
+    ∙ ap₂ (λ (h : Head) (x : List ℕ). (record { reader = readerOf ekey ckey (taken s h); accepted = 1; bytes = h .len; stop = End }, over x out))
+    (head-is ekey ckey number count release payload b w)
+    (ap (λ (k : Keys). opened (k .enc) b) (keys-are ekey ckey number count release payload b w s) ∙ opens ekey ckey number count release payload b w)
+
+-- ---- demand 3: what is damaged is refused
+
+-- a block that is the written one outside one piece of 16 bytes, the check being piece 31, and is not the written one is refused by a
+-- reader under the same keys, in every state: by 16 where the image is complete, else by 14
+pub damaged-is-refused : (ekey ckey : List ℕ) (number count release : ℕ) (payload b : List ℕ) → Wrote ekey ckey number count release payload b
+    → (i : ℕ) (d : List ℕ) → Octets 512 d → SameOutside i d b → (d ≡ b → ⊥)
+    → (s : Progress) → judge (keysOf (readerOf ekey ckey s)) s d ≡ choose (done s) (Refused AfterLast) (Refused CheckWrong)
+damaged-is-refused ekey ckey number count release payload b w i d o q n s = refuses ekey ckey number count release payload b w i d o q n s
+
+-- and a turn over it changes nothing
+pub damaged-changes-nothing : (ekey ckey : List ℕ) (number count release : ℕ) (payload b : List ℕ) → Wrote ekey ckey number count release payload b
+    → (i : ℕ) (d : List ℕ) → Octets 512 d → SameOutside i d b → (d ≡ b → ⊥)
+    → (s : Progress) (asked : ℕ) (out : List ℕ) → 0 < asked → asked ≤ 128 → 480 ≤ length out
+    → turnOf (readerOf ekey ckey s) d asked out
+    ≡ (record { reader = readerOf ekey ckey s; accepted = 0; bytes = 0; stop = At 0 (choose (done s) AfterLast CheckWrong) }, out)
+damaged-changes-nothing ekey ckey number count release payload b w i d o q n s asked out la ha lo =
+    one-refused (readerOf ekey ckey s) d asked out (choose (done s) AfterLast CheckWrong) (o .size) la ha lo
+    (refuses ekey ckey number count release payload b w i d o q n s ∙ either (done s))
+  where
+    either : (t : Bool) → choose t (Refused AfterLast) (Refused CheckWrong) ≡ Refused (choose t AfterLast CheckWrong)
+    either true = refl
+    either false = refl
+
+-- and whatever a reader accepts was sealed under its keys: it is what the writer makes of the header and payload found in it
+pub accepted-is-sealed : (r : Reader) (b : List ℕ) → Octets 512 b → judge (keysOf r) (r .progress) b ≡ Accepted
+    → b ≡ sealed (keysOf r .enc) (keysOf r .chk) [] (headOf b) (payload (keysOf r .enc) b)
+accepted-is-sealed r b o e =
+    let m = accepted-met (keysOf r) (r .progress) b e in
+    accepted-sealed (keysOf r) (usable-lawful r (m .usable-keys) .0) (r .progress) b (o .size) (o .bytes) m
+
+-- ---- demand 3: a whole image
+
+-- the writer writes it, block after block: block i of the payload's i-th 480 bytes
+pub image-is-written : (ekey ckey : List ℕ) (release : ℕ) (payload : List ℕ) → KeyTaken ekey → KeyTaken ckey → release < 4294967296 → length payload ≤ 31456800 → Bytes payload
+    → (i : ℕ) → i < blocks payload → (out : List ℕ) → 512 ≤ length out
+    → (writeAnswer ekey ckey i (blocks payload) (piece 480 payload i) out ≡ Written)
+    × (take 512 (afterWrite ekey ckey i (blocks payload) release (piece 480 payload i) out) ≡ getD (image (aesOf ekey) (aesOf ckey) release payload) i [])
+image-is-written ekey ckey release payload te tc hr lp bp i hi out lo =
+    let N = blocks payload in
+    let q = piece 480 payload i in
+    let left : Left N i (drop (i * 480) payload) = record {
+      most = omega (arith, length-drop (i * 480) payload);
+      least = λ a o. omega (arith, length-drop (i * 480) payload);
+    } in
+    let a : writeAnswer ekey ckey i N q out ≡ Written = fit-written ekey ckey i N q out te tc (fits-count N (omega arith) (omega arith)) hi (left-fits N i (drop (i * 480) payload) hi left) lo in (
+      a,
+      rw a (output-block ekey ckey i N release q out (take-bytes 480 (drop (i * 480) payload) (drop-bytes (i * 480) payload bp)) a)
+          ∙ ap (λ (n : ℕ). sealed (aesOf ekey) (aesOf ckey) [] (headFor n N release (length q)) q) (sym (zero-add i))
+          ∙ sym (written-at (aesOf ekey) (aesOf ckey) N release N 0 payload i hi),
+    )
+
+pub image-length : (ek ck : BlockCipher) (release : ℕ) (payload : List ℕ) → length (image ek ck release payload) ≡ blocks payload
+image-length ek ck release payload = written-length ek ck (blocks payload) release (blocks payload) 0 payload
+
+-- read in any turns, whatever blocks each lends and however many it asks for, as long as those handled are the image, every block is
+-- accepted, the reader is complete at the end, the payloads handed out join to the payload, and the lengths given add up to its length
+pub image-is-read : (ekey ckey : List ℕ) (release : ℕ) (payload : List ℕ) → KeyTaken ekey → KeyTaken ckey → release < 4294967296 → length payload ≤ 31456800 → Bytes payload
+    → (ls : List Lending) → AllFair ls → offered ls ≡ image (aesOf ekey) (aesOf ckey) release payload
+    → AllAccepted (startOf ekey ckey .reader) ls
+    × (completionOf (readerAfter (startOf ekey ckey .reader) ls) ≡ Complete)
+    × (handedOut (startOf ekey ckey .reader) ls ≡ payload)
+    × (counted (startOf ekey ckey .reader) ls ≡ length payload)
+unfolding completionOf
+image-is-read ekey ckey release payload te tc hr lp bp ls f e =
+    let le = key-lawful ekey te in
+    let lc = key-lawful ckey tc in
+    let r = startOf ekey ckey .reader in
+    let s = start-fresh ekey ckey te tc in
+    let w : Blocks (offered ls) = rw e (image-blocks (aesOf ekey) (aesOf ckey) le lc release payload hr lp bp) in
+    let p : Passes (keysUnder ekey ckey) (r .progress) (offered ls) = rw (s .2, e) (image-passes (aesOf ekey) (aesOf ckey) le lc release payload hr lp bp) in
+    let t = turns-read (keysUnder ekey ckey) le r (s .1) ls f w p in
+    let whole : parts (aesOf ekey) (offered ls) ≡ payload = ap (parts (aesOf ekey)) e ∙ image-parts (aesOf ekey) (aesOf ckey) le lc release payload hr lp bp in
+    (t .0, rw (t .1), t .2 ∙ whole, t .3 ∙ ap length whole)
+
+-- blocks may be cut into turns at any place: a run over some and then a run over the rest are the run over all
+pub cut-anywhere : (k : Keys) (s : Progress) (cs bs : List (List ℕ)) → ran k s cs .stop ≡ End → ran k s (cs ++ bs) ≡ andThen (ran k s cs) (ran k (ran k s cs .progress) bs)
+cut-anywhere k s cs bs e = ran-append k s cs bs e
+
+-- blocks lent one after another are those that the turn handles, as far as it asks for them
+pub given-joined : (bs : List (List ℕ)) (asked : ℕ) → Blocks bs → length bs ≤ asked
+    → (length (joined bs) ≡ 512 * length bs) × (handled (joined bs) asked ≡ length bs) × (given (joined bs) asked ≡ bs)
+unfolding cut
+given-joined bs asked w h =
+    let n : length (joined bs) ≡ 512 * length bs = whole-size bs w in
+    let m : handled (joined bs) asked ≡ length bs = omega (arith, n) in
+    (n, m, ap (λ (m : ℕ). cut m (joined bs)) m ∙ each bs w)
+  where
+    whole-size : (bs : List (List ℕ)) → Blocks bs → length (joined bs) ≡ 512 * length bs
+    whole-size [] w = refl
+    whole-size (b ∷ bs) w = length-append b (joined bs) ∙ omega (arith, w .0 .size, whole-size bs (w .1))
+
+    each : (bs : List (List ℕ)) → Blocks bs → cut (length bs) (joined bs) ≡ bs
+    each [] w = refl
+    each (b ∷ bs) w = ap₂ (λ (x : List ℕ) (y : List (List ℕ)). x ∷ y) (take-at b (joined bs) 512 (w .0 .size)) (ap (cut (length bs)) (drop-at b (joined bs) 512 (w .0 .size)) ∙ each bs (w .1))
+
+-- so every cutting of blocks into turns of at most 128 is one that `image-is-read` speaks of
+pub any-cutting : (out : List ℕ) → 61440 ≤ length out → (turns : List (List (List ℕ))) → AllFew turns → Blocks (concat turns)
+    → AllFair (lendEach out turns) × (offered (lendEach out turns) ≡ concat turns)
+any-cutting out lo [] f w = (tt, refl)
+any-cutting out lo (bs ∷ turns) f w =
+    let v = blocks-split bs (concat turns) w in
+    let g = given-joined bs 128 (v .0) (f .0) in
+    let ih = any-cutting out lo turns (f .1) (v .1) in (
+      (record { some-asked = omega arith; few-asked = omega arith; blocks-lent = omega (arith, g .0); room = omega (arith, g .1, f .0) }, ih .0),
+      ap₂ _++_ (g .2) (ih .1),
+    )
+
+-- ---- demand 2: what a turn accepted
+
+-- the blocks accepted are the advance of the number expected
+pub turn-advance : (r : Reader) (lent : List ℕ) (asked : ℕ) (out : List ℕ)
+    → turnOf r lent asked out .0 .reader .progress .next ≡ r .progress .next + turnOf r lent asked out .0 .accepted
+turn-advance r lent asked out =
+    by-turn r lent asked out (λ (t : Turn × List ℕ). t .0 .reader .progress .next ≡ r .progress .next + t .0 .accepted)
+    (sym (add-zero (r .progress .next))) (sym (add-zero (r .progress .next))) (sym (add-zero (r .progress .next)))
+    (λ f. advance (keysOf r) (r .progress) (given lent asked))
+
+-- where nothing is refused, they are the blocks handled: the smaller of those lent and the number asked for
+pub turn-takes-all : (r : Reader) (lent : List ℕ) (asked : ℕ) (out : List ℕ)
+    → stopNumber (turnOf r lent asked out .0 .stop) ≡ 0 → turnOf r lent asked out .0 .accepted ≡ handled lent asked
+turn-takes-all r lent asked out =
+    by-turn r lent asked out (λ (t : Turn × List ℕ). stopNumber (t .0 .stop) ≡ 0 → t .0 .accepted ≡ handled lent asked)
+    (λ e. absurd (omega arith)) (λ e. absurd (omega arith)) (λ e. absurd (omega arith))
+    (λ f e. end-all (keysOf r) (r .progress) (given lent asked) (ended (readingOf r lent asked .stop) e) ∙ cut-length (handled lent asked) lent)
+  where
+    some : (y : Reason) → reasonNumber y ≡ 0 → ⊥
+    some (Count v) e = omega arith
+    some (Number v) e = omega arith
+    some (OtherCount v) e = omega arith
+    some (OtherRelease v) e = omega arith
+    some (NotBelow v) e = omega arith
+    some (Length v) e = omega arith
+    some (Reserved v) e = omega arith
+    some CheckWrong e = omega arith
+    some FillNotZero e = omega arith
+    some AfterLast e = omega arith
+
+    ended : (x : Stop) → stopNumber x ≡ 0 → x ≡ End
+    ended End e = refl
+    ended Asked e = absurd (omega arith)
+    ended Lent e = absurd (omega arith)
+    ended Room e = absurd (omega arith)
+    ended (At p y) e = absurd (some y e)
+
+-- every accepted block met every test, in the state after those before it
+pub turn-met : (r : Reader) (lent : List ℕ) (asked : ℕ) (out : List ℕ)
+    → AllMet (keysOf r) (r .progress) (turnOf r lent asked out .0 .accepted) (given lent asked)
+turn-met r lent asked out =
+    by-turn r lent asked out (λ (t : Turn × List ℕ). AllMet (keysOf r) (r .progress) (t .0 .accepted) (given lent asked))
+    tt tt tt (λ f. ran-met (keysOf r) (r .progress) (given lent asked))
+
+-- the state moves by the accepted blocks alone, and the keys stay: a refused block changes nothing, and may be offered again
+pub turn-state : (r : Reader) (lent : List ℕ) (asked : ℕ) (out : List ℕ)
+    → turnOf r lent asked out .0 .reader ≡ inState r (moved (r .progress) (take (turnOf r lent asked out .0 .accepted) (given lent asked)))
+turn-state r lent asked out =
+    by-turn r lent asked out (λ (t : Turn × List ℕ). t .0 .reader ≡ inState r (moved (r .progress) (take (t .0 .accepted) (given lent asked))))
+    refl refl refl (λ f. ap (inState r) (ran-state (keysOf r) (r .progress) (given lent asked)))
+
+-- a refusal names the place of its block, which is the number of blocks accepted, and gives that block's verdict
+pub turn-place : (r : Reader) (lent : List ℕ) (asked : ℕ) (out : List ℕ) (place : ℕ) (reason : Reason) → turnOf r lent asked out .0 .stop ≡ At place reason
+    → (place ≡ turnOf r lent asked out .0 .accepted)
+    × (judge (keysOf r) (turnOf r lent asked out .0 .reader .progress) (getD (given lent asked) place []) ≡ Refused reason)
+turn-place r lent asked out p y =
+    by-turn r lent asked out
+    (λ (t : Turn × List ℕ). t .0 .stop ≡ At p y → (p ≡ t .0 .accepted) × (judge (keysOf r) (t .0 .reader .progress) (getD (given lent asked) p []) ≡ Refused y))
+    (λ e. let z : _≡_ {A = ℕ} 0 1 = cc in absurd (omega arith)) (λ e. let z : _≡_ {A = ℕ} 0 1 = cc in absurd (omega arith)) (λ e. let z : _≡_ {A = ℕ} 0 1 = cc in absurd (omega arith))
+    (λ f e. stop-place (keysOf r) (r .progress) (given lent asked) p y e)
+
+-- the first accepted block fixes count and release, for all that follow
+pub turn-fixes : (r : Reader) (lent : List ℕ) (asked : ℕ) (out : List ℕ) → 0 < turnOf r lent asked out .0 .accepted
+    → (turnOf r lent asked out .0 .reader .progress .fixed ≡ true)
+    × (turnOf r lent asked out .0 .reader .progress .count ≡ headOf (getD (given lent asked) 0 []) .count)
+    × (turnOf r lent asked out .0 .reader .progress .release ≡ headOf (getD (given lent asked) 0 []) .release)
+turn-fixes r lent asked out =
+    by-turn r lent asked out
+    (λ (t : Turn × List ℕ). 0 < t .0 .accepted → (t .0 .reader .progress .fixed ≡ true)
+    × (t .0 .reader .progress .count ≡ headOf (getD (given lent asked) 0 []) .count) × (t .0 .reader .progress .release ≡ headOf (getD (given lent asked) 0 []) .release))
+    (λ e. absurd (omega arith)) (λ e. absurd (omega arith)) (λ e. absurd (omega arith))
+    (λ f. go (given lent asked))
+  where
+    go : (bs : List (List ℕ)) → 0 < ran (keysOf r) (r .progress) bs .accepted
+        → (ran (keysOf r) (r .progress) bs .progress .fixed ≡ true)
+        × (ran (keysOf r) (r .progress) bs .progress .count ≡ headOf (getD bs 0 []) .count) × (ran (keysOf r) (r .progress) bs .progress .release ≡ headOf (getD bs 0 []) .release)
+    go [] h = absurd (omega (arith, accepted-le (keysOf r) (r .progress) []))
+    go (b ∷ bs) h = first-fixes (keysOf r) (r .progress) b bs h
+
+-- where no block is accepted, nothing is changed: a refused block fixes nothing, and leaves state and output as they were
+pub turn-of-none : (r : Reader) (lent : List ℕ) (asked : ℕ) (out : List ℕ) → turnOf r lent asked out .0 .accepted ≡ 0
+    → (turnOf r lent asked out .0 .reader ≡ r) × (turnOf r lent asked out .0 .bytes ≡ 0) × (turnOf r lent asked out .1 ≡ out)
+turn-of-none r lent asked out =
+    by-turn r lent asked out (λ (t : Turn × List ℕ). t .0 .accepted ≡ 0 → (t .0 .reader ≡ r) × (t .0 .bytes ≡ 0) × (t .1 ≡ out))
+    (λ e. (refl, refl, refl)) (λ e. (refl, refl, refl)) (λ e. (refl, refl, refl))
+    (λ f e.
+    let n = none-accepted (keysOf r) (r .progress) (given lent asked) e in
+    (ap (inState r) (n .0), n .1, ap (λ (x : List ℕ). over x out) (n .2)))
+
+-- a refusal of the whole turn gives the state it got, counts of 0, and the output as it was
+pub turn-refusal-keeps : (r : Reader) (lent : List ℕ) (asked : ℕ) (out : List ℕ) (why : Stop) → Whole why → turnOf r lent asked out .0 .stop ≡ why
+    → turnOf r lent asked out ≡ (record { reader = r; accepted = 0; bytes = 0; stop = why }, out)
+turn-refusal-keeps r lent asked out why w =
+    by-turn r lent asked out (λ (t : Turn × List ℕ). t .0 .stop ≡ why → t ≡ (record { reader = r; accepted = 0; bytes = 0; stop = why }, out))
+    (λ e. ap (λ (x : Stop). (record { reader = r; accepted = 0; bytes = 0; stop = x }, out)) e)
+    (λ e. ap (λ (x : Stop). (record { reader = r; accepted = 0; bytes = 0; stop = x }, out)) e)
+    (λ e. ap (λ (x : Stop). (record { reader = r; accepted = 0; bytes = 0; stop = x }, out)) e)
+    (λ f e. absurd (ends-or-at (keysOf r) (r .progress) (given lent asked) ⊥ (λ q. not-whole-end why w (sym e ∙ q)) (λ y q. not-whole-at why w (readingOf r lent asked .accepted) y (sym e ∙ q))))
+  where
+    not-whole-end : (x : Stop) → Whole x → x ≡ End → ⊥
+    not-whole-end End w e = w
+    not-whole-end Asked w e = let z : _≡_ {A = ℕ} 0 1 = cc in omega arith
+    not-whole-end Lent w e = let z : _≡_ {A = ℕ} 0 1 = cc in omega arith
+    not-whole-end Room w e = let z : _≡_ {A = ℕ} 0 1 = cc in omega arith
+    not-whole-end (At p y) w e = w
+
+    not-whole-at : (x : Stop) → Whole x → (p : ℕ) (y : Reason) → x ≡ At p y → ⊥
+    not-whole-at End w p y e = w
+    not-whole-at Asked w p y e = let z : _≡_ {A = ℕ} 0 1 = cc in omega arith
+    not-whole-at Lent w p y e = let z : _≡_ {A = ℕ} 0 1 = cc in omega arith
+    not-whole-at Room w p y e = let z : _≡_ {A = ℕ} 0 1 = cc in omega arith
+    not-whole-at (At q x) w p y e = w
+
+-- ---- demand 2: what a turn handed out
+
+-- accepted block j puts its 480 decrypted bytes at 480j
+pub turn-puts : (r : Reader) (lent : List ℕ) (asked : ℕ) (out : List ℕ) → Bytes lent → (j : ℕ) → j < turnOf r lent asked out .0 .accepted
+    → take 480 (drop (480 * j) (turnOf r lent asked out .1)) ≡ opened (keysOf r .enc) (getD (given lent asked) j [])
+turn-puts r lent asked out b j =
+    by-turn r lent asked out (λ (t : Turn × List ℕ). j < t .0 .accepted → take 480 (drop (480 * j) (t .1)) ≡ opened (keysOf r .enc) (getD (given lent asked) j []))
+    (λ h. absurd (omega arith)) (λ h. absurd (omega arith)) (λ h. absurd (omega arith)) (λ f h. go h (keysOf r .usable) refl)
+  where
+    go : j < readingOf r lent asked .accepted → (u : Bool) → keysOf r .usable ≡ u
+        → take 480 (drop (480 * j) (over (readingOf r lent asked .out) out)) ≡ opened (keysOf r .enc) (getD (given lent asked) j [])
+    go h true e = out-at (keysOf r) (usable-lawful r e .0) (r .progress) (given lent asked) (given-blocks lent asked b) (drop (length (readingOf r lent asked .out)) out) j h
+    go h false e = absurd (omega (arith, no-keys-none (keysOf r) e (r .progress) (given lent asked)))
+
+-- they are all that is written, and the rest of the output stays
+pub turn-output : (r : Reader) (lent : List ℕ) (asked : ℕ) (out : List ℕ) → Bytes lent
+    → (take (480 * turnOf r lent asked out .0 .accepted) (turnOf r lent asked out .1) ≡ plains (keysOf r .enc) (take (turnOf r lent asked out .0 .accepted) (given lent asked)))
+    × (drop (480 * turnOf r lent asked out .0 .accepted) (turnOf r lent asked out .1) ≡ drop (480 * turnOf r lent asked out .0 .accepted) out)
+    × (length (turnOf r lent asked out .1) ≡ length out)
+turn-output r lent asked out b =
+    by-turn r lent asked out
+    (λ (t : Turn × List ℕ). (take (480 * t .0 .accepted) (t .1) ≡ plains (keysOf r .enc) (take (t .0 .accepted) (given lent asked)))
+    × (drop (480 * t .0 .accepted) (t .1) ≡ drop (480 * t .0 .accepted) out) × (length (t .1) ≡ length out))
+    (refl, refl, refl) (refl, refl, refl) (refl, refl, refl)
+    (λ f.
+    let R = readingOf r lent asked in
+    let n : length (R .out) ≡ 480 * R .accepted = reading-length r lent asked out b in
+    let a : R .accepted ≤ handled lent asked = reading-le r lent asked out in (
+      take-at (R .out) (drop (length (R .out)) out) (480 * R .accepted) n ∙ ran-out (keysOf r) (r .progress) (given lent asked),
+      drop-at (R .out) (drop (length (R .out)) out) (480 * R .accepted) n ∙ ap (λ (m : ℕ). drop m out) n,
+      length-append (R .out) (drop (length (R .out)) out) ∙ omega (arith, length-drop (length (R .out)) out, n, a, f .room),
+    ))
+
+-- each is a payload as long as the header says, and zero fill; the bytes counted are the payloads'
+pub turn-fills : (r : Reader) (lent : List ℕ) (asked : ℕ) (out : List ℕ) → Bytes lent
+    → AllFilled (keysOf r .enc) (take (turnOf r lent asked out .0 .accepted) (given lent asked))
+    × (turnOf r lent asked out .0 .bytes ≡ length (parts (keysOf r .enc) (take (turnOf r lent asked out .0 .accepted) (given lent asked))))
+turn-fills r lent asked out b =
+    by-turn r lent asked out
+    (λ (t : Turn × List ℕ). AllFilled (keysOf r .enc) (take (t .0 .accepted) (given lent asked))
+    × (t .0 .bytes ≡ length (parts (keysOf r .enc) (take (t .0 .accepted) (given lent asked)))))
+    (tt, refl) (tt, refl) (tt, refl)
+    (λ f.
+    let a = go (keysOf r .usable) refl in
+    (a, ran-bytes (keysOf r) (r .progress) (given lent asked) ∙ sym (parts-length (keysOf r .enc) (take (readingOf r lent asked .accepted) (given lent asked)) a)))
+  where
+    go : (u : Bool) → keysOf r .usable ≡ u → AllFilled (keysOf r .enc) (take (readingOf r lent asked .accepted) (given lent asked))
+    go true e = met-filled (keysOf r) (usable-lawful r e .0) (r .progress) (readingOf r lent asked .accepted) (given lent asked) (given-blocks lent asked b) (ran-met (keysOf r) (r .progress) (given lent asked))
+    go false e = rw (no-keys-none (keysOf r) e (r .progress) (given lent asked)) tt
+
+-- ---- demand 2: a reader without usable keys accepts nothing
+
+-- every block is refused by 14, or by 16 where the state is complete
+pub no-keys-refuses : (r : Reader) → keysOf r .usable ≡ false → (b : List ℕ) → judge (keysOf r) (r .progress) b ≡ choose (done (r .progress)) (Refused AfterLast) (Refused CheckWrong)
+no-keys-refuses r e b = no-keys (keysOf r) (r .progress) b e
+
+pub no-keys-turn : (r : Reader) → keysOf r .usable ≡ false → (lent : List ℕ) (asked : ℕ) (out : List ℕ)
+    → (turnOf r lent asked out .0 .accepted ≡ 0) × (turnOf r lent asked out .0 .reader ≡ r) × (turnOf r lent asked out .1 ≡ out)
+no-keys-turn r e lent asked out =
+    let a : turnOf r lent asked out .0 .accepted ≡ 0 =
+    by-turn r lent asked out (λ (t : Turn × List ℕ). t .0 .accepted ≡ 0) refl refl refl (λ f. no-keys-none (keysOf r) e (r .progress) (given lent asked)) in
+    let n = turn-of-none r lent asked out a in
+    (a, n .0, n .2)
+
+-- such is the state that a refused start gives: every block gets 14, and no turn changes anything
+pub refused-start-refuses : (ekey ckey : List ℕ) → keyNumber (startOf ekey ckey .answer) ≡ 1
+    → (b : List ℕ) → judge (keysOf (startOf ekey ckey .reader)) (startOf ekey ckey .reader .progress) b ≡ Refused CheckWrong
+unfolding done
+refused-start-refuses ekey ckey h b =
+    let s = start-refused ekey ckey h in
+    no-keys-refuses (startOf ekey ckey .reader) (s .0) b ∙ ap unchecked (s .1)
+
+pub refused-start-turn : (ekey ckey : List ℕ) → keyNumber (startOf ekey ckey .answer) ≡ 1 → (lent : List ℕ) (asked : ℕ) (out : List ℕ)
+    → (turnOf (startOf ekey ckey .reader) lent asked out .0 .accepted ≡ 0)
+    × (turnOf (startOf ekey ckey .reader) lent asked out .0 .reader ≡ startOf ekey ckey .reader)
+    × (turnOf (startOf ekey ckey .reader) lent asked out .1 ≡ out)
+refused-start-turn ekey ckey h = no-keys-turn (startOf ekey ckey .reader) (start-refused ekey ckey h .0)
+
+-- ---- demand 2: completion
+
+-- a start is not complete, and after an accepted block a reader is complete where that block is the last
+pub start-is-open : (ekey ckey : List ℕ) → completionOf (startOf ekey ckey .reader) ≡ NotComplete
+unfolding completionOf done
+start-is-open ekey ckey = ap (λ (s : Progress). choose (done s) Complete NotComplete) (fresh-start ekey ckey)
+
+pub last-completes : (r : Reader) (b : List ℕ) → judge (keysOf r) (r .progress) b ≡ Accepted
+    → completionOf (inState r (taken (r .progress) (headOf b))) ≡ choose (eqb (headOf b .number + 1) (headOf b .count)) Complete NotComplete
+unfolding completionOf done
+last-completes r b e =
+    ap (λ (n : ℕ). choose (eqb (n + 1) (headOf b .count)) Complete NotComplete) (sym (accepted-met (keysOf r) (r .progress) b e .head-right .expected))
+
+-- ---- the states that a start and turns make
+
+-- once count and release are fixed, the number expected is never past the count; before, it is 0
+pub from-start-sound : (ekey ckey : List ℕ) (r : Reader) → FromStart ekey ckey r → Sound (r .progress)
+from-start-sound ekey ckey r f = reached-sound (keysOf r) (r .progress) (from-reached ekey ckey r f)
+
+-- and no turn of theirs stops by 11
+pub from-start-never-11 : (ekey ckey : List ℕ) (r : Reader) → FromStart ekey ckey r → (lent : List ℕ) (asked : ℕ) (out : List ℕ) (place value : ℕ)
+    → turnOf r lent asked out .0 .stop ≡ At place (NotBelow value) → ⊥
+from-start-never-11 ekey ckey r f lent asked out p v =
+    by-turn r lent asked out (λ (t : Turn × List ℕ). t .0 .stop ≡ At p (NotBelow v) → ⊥)
+    (λ e. let z : _≡_ {A = ℕ} 0 1 = cc in omega arith) (λ e. let z : _≡_ {A = ℕ} 0 1 = cc in omega arith) (λ e. let z : _≡_ {A = ℕ} 0 1 = cc in omega arith)
+    (λ g e. ran-never-11 (keysOf r) (r .progress) (given lent asked) p v (from-reached ekey ckey r f) e)

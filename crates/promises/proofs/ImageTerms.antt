@@ -1,0 +1,288 @@
+-- The words in which the promises about images are said. Assumes nothing: these are definitions.
+use mathlib.Core.Path.{_≡_}
+use mathlib.Core.Bool.{true, false, _&&_}
+use mathlib.Core.List.{List, [], _∷_, _++_}
+use Prim.Native.Nat.{ℕ, zero, suc, _+_, _*_, _/_, _%_, _≤_, _<_, max}
+use lib.ListN.{length, take, drop}
+use Rattle.octets.specs.Octets.{choose, Bytes, Octets}
+use Rattle.octets.specs.Blocks.{BlockCipher}
+use Rattle.sbox.specs.Sbox.{sBox}
+use Rattle.schedule.specs.Schedule.{scheduleOf, keyNumber}
+use Rattle.cmac.specs.Running.{joined}
+use Rattle.header.specs.Layout.{headOf}
+use Rattle.header.specs.Rules.{done, lengthFits}
+use Rattle.header.specs.declared.Head.{Head}
+use Rattle.header.specs.declared.Progress.{Progress}
+use Rattle.header.specs.declared.Reason.the-variants.{AfterLast, CheckWrong, Count, Number, OtherCount, OtherRelease, NotBelow, Length, Reserved, FillNotZero}
+use Rattle.header.specs.declared.Verdict.{Verdict}
+use Rattle.header.specs.declared.Verdict.the-variants.{Accepted, Refused}
+use Rattle.image.specs.Sealed.{filled, sealed, opened, checks, fillZero}
+use Rattle.image.specs.Judge.{Keys, taken}
+use Rattle.image.specs.Turn.{Reading, cut}
+use Rattle.image.specs.Calls.{writeAnswer, headFor, writeOutput, startOf, handled, turnOf}
+use Rattle.image.specs.declared.WriteAnswer.{WriteAnswer}
+use Rattle.image.specs.declared.WriteAnswer.the-variants.{Written, WriteKey, WriteCount, WriteNumber, WriteLength, WriteRoom}
+use Rattle.image.specs.declared.Reader.{Reader}
+use Rattle.image.specs.declared.Stop.{Stop}
+use Rattle.image.specs.declared.Stop.the-variants.{End, Asked, Lent, Room, At}
+use Rattle.image.specs.declared.Turn.{Turn}
+
+-- ---- the verdict on a block
+
+-- what the tests ask of a header
+pub record Right (s : Progress) (h : Head) : Type 0 where
+  pub count-low : 0 < h .count
+  pub count-high : h .count ≤ 65535
+  pub expected : h .number ≡ s .next
+  pub same-count : s .fixed ≡ true → h .count ≡ s .count
+  pub same-release : s .fixed ≡ true → h .release ≡ s .release
+  pub below : h .number < h .count
+  pub len-fits : lengthFits (h .number) (h .count) (h .len) ≡ true
+  pub reserved-zero : h .reserved ≡ 0
+
+-- a block meets every test
+pub record Met (k : Keys) (s : Progress) (b : List ℕ) : Type 0 where
+  pub usable-keys : k .usable ≡ true
+  pub check-right : checks (k .chk) [] b ≡ true
+  pub head-right : Right s (headOf b)
+  pub fill-zero : fillZero (k .enc) b ≡ true
+
+-- what each verdict says of a block: accepted, that it meets every test; refused, that the table's row for the reason holds, and that the
+-- value held is the one found
+abbrev pub Says : Keys → Progress → List ℕ → Verdict → Type 0
+Says k s b Accepted = Met k s b
+Says k s b (Refused AfterLast) = done s ≡ true
+Says k s b (Refused CheckWrong) = (k .usable && checks (k .chk) [] b) ≡ false
+Says k s b (Refused (Count v)) = (v ≡ headOf b .count) × (0 < v → v ≤ 65535 → ⊥)
+Says k s b (Refused (Number v)) = (v ≡ headOf b .number) × (v ≡ s .next → ⊥)
+Says k s b (Refused (OtherCount v)) = (v ≡ headOf b .count) × (s .fixed ≡ true) × (v ≡ s .count → ⊥)
+Says k s b (Refused (OtherRelease v)) = (v ≡ headOf b .release) × (s .fixed ≡ true) × (v ≡ s .release → ⊥)
+Says k s b (Refused (NotBelow v)) = (v ≡ headOf b .number) × (headOf b .count ≤ v)
+Says k s b (Refused (Length v)) = (v ≡ headOf b .len) × (lengthFits (headOf b .number) (headOf b .count) v ≡ false)
+Says k s b (Refused (Reserved v)) = (v ≡ headOf b .reserved) × (v ≡ 0 → ⊥)
+Says k s b (Refused FillNotZero) = fillZero (k .enc) b ≡ false
+
+-- refused by 16 where the image is complete, else by 14
+abbrev pub unchecked : Progress → Verdict
+unchecked s = choose (done s) (Refused AfterLast) (Refused CheckWrong)
+
+-- the first n blocks meet every test, each in the state after those before it
+abbrev pub AllMet : Keys → Progress → ℕ → List (List ℕ) → Type 0
+AllMet k s zero bs = Unit {0}
+AllMet k s (suc n) [] = ⊥
+AllMet k s (suc n) (b ∷ bs) = Met k s b × AllMet k (taken s (headOf b)) n bs
+
+-- ---- blocks and what they hold
+
+-- every one is 512 bytes
+abbrev pub Blocks : List (List ℕ) → Type 0
+Blocks [] = Unit {0}
+Blocks (b ∷ bs) = Octets 512 b × Blocks bs
+
+-- the payload of a block: its header says how long it is
+abbrev pub payload : BlockCipher → List ℕ → List ℕ
+payload ek b = take (headOf b .len) (opened ek b)
+
+-- what blocks open to, joined, and their payloads, joined
+abbrev pub plains : BlockCipher → List (List ℕ) → List ℕ
+plains ek [] = []
+plains ek (b ∷ bs) = opened ek b ++ plains ek bs
+
+abbrev pub parts : BlockCipher → List (List ℕ) → List ℕ
+parts ek [] = []
+parts ek (b ∷ bs) = payload ek b ++ parts ek bs
+
+-- the sum of the lengths that their headers say
+abbrev pub lengths : List (List ℕ) → ℕ
+lengths [] = 0
+lengths (b ∷ bs) = headOf b .len + lengths bs
+
+-- what each block opens to is its payload, as long as its header says, and zero fill
+abbrev pub AllFilled : BlockCipher → List (List ℕ) → Type 0
+AllFilled ek [] = Unit {0}
+AllFilled ek (b ∷ bs) = (opened ek b ≡ filled (payload ek b)) × (length (payload ek b) ≡ headOf b .len) × AllFilled ek bs
+
+-- the payloads that an output holds, each at the start of its 480 bytes, their lengths told by the blocks' headers
+abbrev pub partsIn : List (List ℕ) → (out : List ℕ) → List ℕ
+partsIn [] out = []
+partsIn (b ∷ bs) out = take (headOf b .len) out ++ partsIn bs (drop 480 out)
+
+-- ---- the writer
+
+-- a key of 16, 24 or 32 bytes
+abbrev pub KeyTaken : List ℕ → Type 0
+KeyTaken key = keyNumber (scheduleOf sBox key .answer) ≡ 0
+
+-- what the writer asks
+pub record Fit (ekey ckey : List ℕ) (number count len room : ℕ) : Type 0 where
+  pub ekey-taken : KeyTaken ekey
+  pub ckey-taken : KeyTaken ckey
+  pub count-low : 0 < count
+  pub count-high : count ≤ 65535
+  pub below : number < count
+  pub len-fits : lengthFits number count len ≡ true
+  pub roomy : 512 ≤ room
+
+-- what each of its answers says
+abbrev pub WriteSays : (ekey ckey : List ℕ) (number count len room : ℕ) → WriteAnswer → Type 0
+WriteSays ekey ckey number count len room Written = Fit ekey ckey number count len room
+WriteSays ekey ckey number count len room WriteKey = KeyTaken ekey → KeyTaken ckey → ⊥
+WriteSays ekey ckey number count len room WriteCount = 0 < count → count ≤ 65535 → ⊥
+WriteSays ekey ckey number count len room WriteNumber = count ≤ number
+WriteSays ekey ckey number count len room WriteLength = lengthFits number count len ≡ false
+WriteSays ekey ckey number count len room WriteRoom = room < 512
+
+-- the output after the writer's call
+abbrev pub afterWrite : (ekey ckey : List ℕ) (number count release : ℕ) (payload out : List ℕ) → List ℕ
+afterWrite ekey ckey number count release payload out =
+    writeOutput (writeAnswer ekey ckey number count payload out) ekey ckey number count release payload out
+
+-- b is a block that the writer wrote of these arguments, under both keys, into some output
+pub record Wrote (ekey ckey : List ℕ) (number count release : ℕ) (payload b : List ℕ) : Type 0 where
+  pub out : List ℕ
+  pub answer : writeAnswer ekey ckey number count payload out ≡ Written
+  pub block : b ≡ take 512 (afterWrite ekey ckey number count release payload out)
+  pub payload-bytes : Bytes payload
+  pub release-fits : release < 4294967296
+
+-- how many blocks a payload takes: one for every 480 bytes begun, and one where there are none
+abbrev pub blocks : List ℕ → ℕ
+blocks p = max 1 ((length p + 479) / 480)
+
+-- n blocks of the writer, from a number on, of what is left of the payload
+unfoldable pub written : (ek ck : BlockCipher) (count release number n : ℕ) → List ℕ → List (List ℕ)
+written ek ck count release number zero p = []
+written ek ck count release number (suc n) p =
+    sealed ek ck [] (headFor number count release (length (take 480 p))) (take 480 p) ∷ written ek ck count release (number + 1) n (drop 480 p)
+
+-- the image of a payload
+abbrev pub image : (ek ck : BlockCipher) (release : ℕ) → List ℕ → List (List ℕ)
+image ek ck release p = written ek ck (blocks p) release 0 (blocks p) p
+
+-- ---- the reader
+
+-- a reader in a given state, and the one that two keys start
+abbrev pub inState : Reader → Progress → Reader
+inState r s = record { enc = r .enc; chk = r .chk; progress = s }
+
+abbrev pub readerOf : (ekey ckey : List ℕ) → Progress → Reader
+readerOf ekey ckey s = inState (startOf ekey ckey .reader) s
+
+-- a state that waits for this block: the number is the one expected, and count and release are the fixed ones, if any are
+pub record Waits (s : Progress) (number count release : ℕ) : Type 0 where
+  pub next-number : number ≡ s .next
+  pub same-count : s .fixed ≡ true → count ≡ s .count
+  pub same-release : s .fixed ≡ true → release ≡ s .release
+
+-- a state after these blocks were accepted
+abbrev pub moved : Progress → List (List ℕ) → Progress
+moved s [] = s
+moved s (b ∷ bs) = moved (taken s (headOf b)) bs
+
+-- the readers that a start and turns make
+pub data FromStart (ekey ckey : List ℕ) : Reader → Type 0 where
+  started : FromStart ekey ckey (startOf ekey ckey .reader)
+  turn : {r : Reader} → FromStart ekey ckey r → (lent : List ℕ) (asked : ℕ) (out : List ℕ) → FromStart ekey ckey (turnOf r lent asked out .0 .reader)
+
+-- once count and release are fixed, the number expected is never past the count; before, it is 0
+pub record Sound (s : Progress) : Type 0 where
+  pub within : s .fixed ≡ true → (s .next ≤ s .count) × (s .count ≤ 65535)
+  pub begun : s .fixed ≡ false → s .next ≡ 0
+
+-- ---- turns
+
+-- the blocks that a turn handles
+abbrev pub given : (lent : List ℕ) (asked : ℕ) → List (List ℕ)
+given lent asked = cut (handled lent asked) lent
+
+-- the turn is not refused as a whole: asked is 1 to 128, whole blocks are lent, and the output has room
+pub record Fair (lent : List ℕ) (asked : ℕ) (out : List ℕ) : Type 0 where
+  pub some-asked : 0 < asked
+  pub few-asked : asked ≤ 128
+  pub blocks-lent : length lent % 512 ≡ 0
+  pub room : 480 * handled lent asked ≤ length out
+
+-- what each way to stop says of what was lent
+abbrev pub StopSays : (lent : List ℕ) (asked : ℕ) (out : List ℕ) → Stop → Type 0
+StopSays lent asked out Asked = 0 < asked → asked ≤ 128 → ⊥
+StopSays lent asked out Lent = length lent % 512 ≡ 0 → ⊥
+StopSays lent asked out Room = length out < 480 * handled lent asked
+StopSays lent asked out End = Fair lent asked out
+StopSays lent asked out (At place reason) = Fair lent asked out
+
+-- refused as a whole
+abbrev pub Whole : Stop → Type 0
+Whole Asked = Unit {0}
+Whole Lent = Unit {0}
+Whole Room = Unit {0}
+Whole End = ⊥
+Whole (At place reason) = ⊥
+
+-- what a caller lends in one turn
+pub record Lending : Type 0 where
+  pub lent : List ℕ
+  pub asked : ℕ
+  pub out : List ℕ
+
+abbrev pub turnBy : Reader → Lending → Turn × List ℕ
+turnBy r l = turnOf r (l .lent) (l .asked) (l .out)
+
+-- no turn is refused as a whole
+abbrev pub AllFair : List Lending → Type 0
+AllFair [] = Unit {0}
+AllFair (l ∷ ls) = Fair (l .lent) (l .asked) (l .out) × AllFair ls
+
+-- the blocks that the turns handle, joined
+abbrev pub offered : List Lending → List (List ℕ)
+offered [] = []
+offered (l ∷ ls) = given (l .lent) (l .asked) ++ offered ls
+
+-- a cutting of blocks into turns, and what a caller lends for it: in each turn its blocks, one after another, and the same output
+abbrev pub concat : List (List (List ℕ)) → List (List ℕ)
+concat [] = []
+concat (bs ∷ turns) = bs ++ concat turns
+
+abbrev pub lendEach : (out : List ℕ) → List (List (List ℕ)) → List Lending
+lendEach out [] = []
+lendEach out (bs ∷ turns) = record { lent = joined bs; asked = 128; out = out } ∷ lendEach out turns
+
+-- no turn has more than 128 blocks
+abbrev pub AllFew : List (List (List ℕ)) → Type 0
+AllFew [] = Unit {0}
+AllFew (bs ∷ turns) = (length bs ≤ 128) × AllFew turns
+
+-- the reader after the turns
+abbrev pub readerAfter : Reader → List Lending → Reader
+readerAfter r [] = r
+readerAfter r (l ∷ ls) = readerAfter (turnBy r l .0 .reader) ls
+
+-- every turn ends without a refusal, and accepts all that it handles
+abbrev pub AllAccepted : Reader → List Lending → Type 0
+AllAccepted r [] = Unit {0}
+AllAccepted r (l ∷ ls) = (turnBy r l .0 .stop ≡ End) × (turnBy r l .0 .accepted ≡ handled (l .lent) (l .asked)) × AllAccepted (turnBy r l .0 .reader) ls
+
+-- the payloads in the outputs, joined, and the sum of the lengths that the turns gave for them
+abbrev pub handedOut : Reader → List Lending → List ℕ
+handedOut r [] = []
+handedOut r (l ∷ ls) = partsIn (given (l .lent) (l .asked)) (turnBy r l .1) ++ handedOut (turnBy r l .0 .reader) ls
+
+abbrev pub counted : Reader → List Lending → ℕ
+counted r [] = 0
+counted r (l ∷ ls) = turnBy r l .0 .bytes + counted (turnBy r l .0 .reader) ls
+
+-- one run over blocks, and then another from where it ended
+abbrev pub laterBy : ℕ → Stop → Stop
+laterBy n (At place reason) = At (n + place) reason
+laterBy n End = End
+laterBy n Asked = Asked
+laterBy n Lent = Lent
+laterBy n Room = Room
+
+abbrev pub andThen : Reading → Reading → Reading
+andThen a b = record {
+  progress = b .progress;
+  accepted = a .accepted + b .accepted;
+  bytes = a .bytes + b .bytes;
+  stop = laterBy (a .accepted) (b .stop);
+  out = a .out ++ b .out;
+}
