@@ -12,10 +12,12 @@ mod random;
 mod refusal;
 
 use std::env;
+use std::fs;
 use std::io::{self, BufWriter, Read, Write};
+use std::path::Path;
 use std::process::ExitCode;
 
-const USAGE: &str = "usage: second console | second list | second random SEED COUNT [CALL,CALL...]";
+const USAGE: &str = "usage: second console | second list | second random SEED COUNT [CALL,CALL...] | second listings SEED DIR";
 
 fn main() -> ExitCode {
     let words: Vec<String> = env::args_os()
@@ -39,6 +41,7 @@ fn run(words: &[&str]) -> Result<(), String> {
         ["list"] => list(),
         ["random", seed, count] => random(number(seed)?, number(count)?, None)?,
         ["random", seed, count, calls] => random(number(seed)?, number(count)?, Some(calls))?,
+        ["listings", seed, dir] => listings(number(seed)?, Path::new(dir)),
         _ => return Err(USAGE.to_string()),
     };
     done.map_err(|error| error.to_string())
@@ -54,6 +57,21 @@ fn list() -> io::Result<()> {
 fn random(seed: u64, count: u64, calls: Option<&str>) -> Result<io::Result<()>, String> {
     let lines = random::Lines::new(seed, calls)?;
     Ok(print_lines(lines, count))
+}
+
+/// Writes each input to DIR/in and its listing to DIR/second.
+fn listings(seed: u64, dir: &Path) -> io::Result<()> {
+    for part in ["in", "second"] {
+        fs::create_dir_all(dir.join(part))?;
+    }
+    for input in random::listings::inputs(seed) {
+        fs::write(dir.join("in").join(&input.name), &input.bytes)?;
+        fs::write(
+            dir.join("second").join(&input.name),
+            listing::list(&input.bytes),
+        )?;
+    }
+    Ok(())
 }
 
 fn print_lines(lines: random::Lines, count: u64) -> io::Result<()> {

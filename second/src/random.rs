@@ -1,6 +1,7 @@
 //! Random console lines from a fixed seed: mostly good calls, some refused, some no calls at all.
 
 mod calls;
+pub mod listings;
 mod plan;
 mod rng;
 mod spoil;

@@ -44,6 +44,10 @@ impl Plan {
         }
     }
 
+    pub fn count(&self) -> u32 {
+        self.count
+    }
+
     /// Blocks one after another, from the number given.
     pub fn blocks(&self, rng: &mut Rng, first: u32, blocks: usize) -> Vec<u8> {
         (first..)

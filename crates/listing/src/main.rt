@@ -1,0 +1,156 @@
+// Lists the blocks of an image. Standard input has two keys of 16 bytes and then the blocks; each block gets a line.
+mod numbers;
+mod rows;
+
+use image::ReadStarted;
+use image::Reader;
+use image::Turn;
+use libc::STDIN_FILENO;
+use libc::STDOUT_FILENO;
+use numbers::completion_number;
+use numbers::stop_number;
+use schedule::KeyAnswer;
+
+// The lines that wait to be written. A line has at most 63 bytes: three numbers of up to 20 digits, two spaces, a line feed.
+type Text = [u8; 8192];
+
+// What comes next: a block is read, the last line is put, or nothing, since a write failed.
+pub enum Next {
+    Read,
+    Close,
+    Leave,
+}
+
+// Where the listing stands; the lines that wait end at `end`.
+pub struct Listed {
+    pub reader: Reader,
+    pub end: usize,
+    pub next: Next,
+}
+
+impl Listed {
+    fn at(mut self, end: usize) -> Listed {
+        self.end = end;
+        self
+    }
+
+    fn then(self, next: Next) -> Listed {
+        let reader = self.reader;
+        Listed {
+            reader,
+            end: self.end,
+            next,
+        }
+    }
+}
+
+fn write_out(end: usize, text: &Text) -> bool {
+    io::write_all(STDOUT_FILENO, lines::part(text, 0, end))
+}
+
+// A program has no exit status, so after a failed write nothing more is written: a listing without its last line is seen to be cut.
+fn with_room(l: Listed, text: &Text) -> Listed {
+    if l.end < 8128 {
+        return l;
+    }
+    if write_out(l.end, text) {
+        return l.at(0);
+    }
+    l.then(Next::Leave)
+}
+
+// A listing shows no payload, so it is dropped here.
+fn ask_one(reader: Reader, lent: &[u8]) -> Turn {
+    let mut payload = [0u8; 480];
+    image::read_turn(reader, lent, 1, &mut payload)
+}
+
+// Offers one block, or the bytes that are left of the input, and puts the line with the number that was expected.
+fn offer(l: Listed, lent: &[u8], text: &mut Text) -> Listed {
+    let before = l.reader;
+    let expected = before.progress.next as u64;
+    let t = ask_one(before, lent);
+    let stop = t.stop;
+    let answer = stop_number(stop);
+    let reader = t.reader;
+    let end = rows::block(expected, answer, t.bytes as u64, text, l.end);
+    if answer == 0 {
+        return Listed {
+            reader,
+            end,
+            next: Next::Read,
+        };
+    }
+    Listed {
+        reader,
+        end,
+        next: Next::Close,
+    }
+}
+
+// A pipe may give fewer bytes than asked for, so a block is read until it is full or the input ends.
+fn step(l: Listed, text: &mut Text) -> Listed {
+    let mut block = [0u8; 512];
+    let n = io::read_full(STDIN_FILENO, &mut block);
+    if n == 0 {
+        return l.then(Next::Close);
+    }
+    with_room(offer(l, &block[..n], text), text)
+}
+
+// An image has at most 65,535 blocks and the reader refuses one more, so the bound cuts nothing off.
+fn list_blocks(reader: Reader, text: &mut Text) -> Listed {
+    let mut l = Listed {
+        reader,
+        end: rows::head(text, 0),
+        next: Next::Read,
+    };
+    let mut left: u32 = 65536;
+    while left > 0 {
+        let s = step(l, text);
+        l = s;
+        let next = s.next;
+        let Next::Read = next else {
+            return l;
+        };
+        left -= 1;
+    }
+    l
+}
+
+// The reader began at 0, so the number that it expects is the count of blocks accepted.
+fn close(l: Listed, text: &mut Text) {
+    let reader = l.reader;
+    let accepted = reader.progress.next;
+    let complete = completion_number(image::read_complete(reader));
+    let end = rows::last(complete, accepted as u64, text, l.end);
+    write_out(end, text);
+}
+
+fn list(reader: Reader) {
+    let mut text = [0u8; 8192];
+    let l = list_blocks(reader, &mut text);
+    let next = l.next;
+    match next {
+        Next::Leave => {}
+        Next::Read | Next::Close => close(l, &mut text),
+    }
+}
+
+// Where the input ends within the keys, the one that is short or missing is refused like any other of a wrong length.
+fn start(keys: &[u8]) -> ReadStarted {
+    image::read_start(lines::part(keys, 0, 16), lines::part(keys, 16, 32))
+}
+
+fn main() {
+    let mut keys = [0u8; 32];
+    let n = io::read_full(STDIN_FILENO, &mut keys);
+    let started = start(&keys[..n]);
+    let reader = started.reader;
+    let answer = started.answer;
+    let KeyAnswer::Taken = answer else {
+        io::write_all(STDOUT_FILENO, b"keys 1\n");
+        return;
+    };
+    list(reader);
+}
