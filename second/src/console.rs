@@ -25,6 +25,7 @@ use crate::hex;
 use crate::image::{self, Reader, Turn};
 use crate::modes::{self, Mode, Way};
 use crate::refusal::{number_of, Refusal};
+use crate::wrap;
 use std::io::{self, BufRead, Read, Write};
 
 /// The longest line, without its line feed.
@@ -97,6 +98,8 @@ impl Console {
             (b"read-start", [encryption, check]) => self.read_start(encryption, check),
             (b"read-turn", [asked, blocks, output]) => self.read_turn(asked, blocks, output),
             (b"read-complete", []) => Some(number_of(&self.reader.complete()).to_string()),
+            (b"wrap", [key, data, output]) => wrap_call(wrap::wrap, key, data, output),
+            (b"unwrap", [key, data, output]) => wrap_call(wrap::unwrap, key, data, output),
             (name, [key, iv, input, output]) => mode_call(name, key, iv, input, output),
             _ => None,
         }
@@ -200,6 +203,15 @@ fn write(words: &[&[u8]]) -> Option<String> {
         &payload,
         &mut output,
     );
+    Some(format!("{} {}", number_of(&result), hex::shown(&output)))
+}
+
+type WrapCall = fn(&[u8], &[u8], &mut [u8]) -> Result<(), Refusal>;
+
+fn wrap_call(call: WrapCall, key: &[u8], data: &[u8], output: &[u8]) -> Option<String> {
+    let (key, data) = (hex::read(key)?, hex::read(data)?);
+    let mut output = hex::read(output)?;
+    let result = call(&key, &data, &mut output);
     Some(format!("{} {}", number_of(&result), hex::shown(&output)))
 }
 

@@ -1,4 +1,4 @@
-//! An independent second program for the cipher, its modes, the check and release images.
+//! An independent second program for the cipher, its modes, the check, release images and the key wrap.
 
 mod aes;
 mod cmac;
@@ -10,6 +10,7 @@ mod listing;
 mod modes;
 mod random;
 mod refusal;
+mod wrap;
 
 use std::env;
 use std::fs;

@@ -5,6 +5,7 @@ pub mod listings;
 mod plan;
 mod rng;
 mod spoil;
+mod wraps;
 
 use crate::console::{Console, BAD};
 use calls::{Call, Draw, CALLS};
@@ -146,6 +147,26 @@ mod tests {
                 answers.iter().any(|answer| answer.starts_with(whole)),
                 "{whole}"
             );
+        }
+    }
+
+    #[test]
+    fn most_wraps_are_carried_out_and_every_refusal_of_them_is_met() {
+        for (call, numbers) in [
+            ("wrap", &["1", "18", "4"][..]),
+            ("unwrap", &["1", "18", "4", "19"]),
+        ] {
+            let mut console = Console::default();
+            let lines = drawn(4, Some(call));
+            let answers: Vec<String> = lines.iter().map(|line| console.answer(line)).collect();
+            let count = |number: &str| {
+                let given = |answer: &&String| answer.split(' ').next() == Some(number);
+                answers.iter().filter(given).count()
+            };
+            for number in numbers {
+                assert!(count(number) > 50, "{call}: {number}");
+            }
+            assert!(count("0") > 800, "{call}: {} of 2000", count("0"));
         }
     }
 

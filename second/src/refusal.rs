@@ -19,6 +19,8 @@ pub enum Refusal {
     FillNotZero = 15,
     AfterLast = 16,
     NotComplete = 17,
+    WrapLength = 18,
+    InitialValue = 19,
 }
 
 impl Refusal {

@@ -5,15 +5,17 @@ use crate::checked;
 use crate::held::Held;
 use crate::imaged;
 use crate::moded;
+use crate::wrapped;
 use args::Args;
 use basic::BasicCall;
 use checked::CheckCall;
 use imaged::ImageCall;
 use modes::Mode;
 use modes::Way;
+use wrapped::WrapCall;
 
 // A row has the name of a call, and from its place 16 on the form of its line: the letters are in args.rt.
-const ROWS: [[u8; 24]; 20] = [
+const ROWS: [[u8; 24]; 22] = [
     *b"product         .11     ",
     *b"schedule        .x      ",
     *b"encrypt         .xb     ",
@@ -34,6 +36,8 @@ const ROWS: [[u8; 24]; 20] = [
     *b"read-start      .xx     ",
     *b"read-turn       .wxo    ",
     *b"read-complete   .       ",
+    *b"wrap            .xxo    ",
+    *b"unwrap          .xxo    ",
 ];
 
 pub enum Call {
@@ -41,6 +45,7 @@ pub enum Call {
     Moded(Mode, Way),
     Checked(CheckCall),
     Imaged(ImageCall),
+    Wrapped(WrapCall),
     Unknown,
 }
 
@@ -67,19 +72,21 @@ fn call_at(k: usize) -> Call {
         17 => Call::Imaged(ImageCall::Start),
         18 => Call::Imaged(ImageCall::Turn),
         19 => Call::Imaged(ImageCall::Complete),
+        20 => Call::Wrapped(WrapCall::Wrap),
+        21 => Call::Wrapped(WrapCall::Unwrap),
         _ => Call::Unknown,
     }
 }
 
 // No line has the form of a row past the last, since that asks for no word at all.
 fn row(k: usize) -> [u8; 24] {
-    if k < 20 { ROWS[k] } else { [32; 24] }
+    if k < 22 { ROWS[k] } else { [32; 24] }
 }
 
-// The row that has a word for its name, or 20.
+// The row that has a word for its name, or 22.
 fn row_of(w: &[u8]) -> usize {
     let mut k: usize = 0;
-    while k < 20 {
+    while k < 22 {
         if has_name(row(k), w) {
             return k;
         }
@@ -109,6 +116,7 @@ fn made(call: Call, held: Held, ins: &[u8], a: Args, outs: &mut [u8], text: &mut
         Call::Moded(mode, way) => held.at(moded::answer(mode, way, ins, a, outs, text, at)),
         Call::Checked(c) => checked::answer(c, held, ins, a, text, at),
         Call::Imaged(c) => imaged::answer(c, held, ins, a, outs, text, at),
+        Call::Wrapped(c) => held.at(wrapped::answer(c, ins, a, outs, text, at)),
         Call::Unknown => held,
     }
 }

@@ -8,6 +8,7 @@ mod imaged;
 mod moded;
 mod print;
 mod stopped;
+mod wrapped;
 
 use held::Held;
 use libc::STDIN_FILENO;

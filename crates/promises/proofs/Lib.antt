@@ -14,3 +14,7 @@ pub mod ImageCalls
 pub mod ImageRead
 pub mod Image
 pub mod ImageDemands
+pub mod WrapTerms
+pub mod WrapLaws
+pub mod Wrap
+pub mod WrapDemands

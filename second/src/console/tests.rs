@@ -45,6 +45,26 @@ fn good_lines() {
 }
 
 #[test]
+fn wrapped_and_back() {
+    let key = "000102030405060708090a0b0c0d0e0f";
+    let data = "00112233445566778899aabbccddeeff";
+    let wrapped = "1fa68b0a8112b447aef34bd8fb5a7b829d3e862371d2cfe5";
+    let (room, more) = ("77".repeat(24), "77".repeat(25));
+    assert_eq!(
+        answer(&format!("wrap {key} {data} {room}")),
+        format!("0 {wrapped}")
+    );
+    assert_eq!(
+        answer(&format!("wrap {key} {data} {more}")),
+        format!("0 {wrapped}77")
+    );
+    assert_eq!(
+        answer(&format!("unwrap {key} {wrapped} {more}")),
+        format!("0 {data}{}", "77".repeat(9))
+    );
+}
+
+#[test]
 fn schedule_shows_sixty_words() {
     let shown = answer(&format!("schedule {KEY}"));
     assert_eq!(shown.len(), 2 + 480);
@@ -67,6 +87,16 @@ fn refused_lines_give_zeros_or_the_lent_output() {
     assert_eq!(answer(&format!("write {KEY} {KEY} 1 1 0 - aa")), "8 aa");
     assert_eq!(answer(&format!("write {KEY} {KEY} 0 2 0 - aa")), "12 aa");
     assert_eq!(answer(&format!("write {KEY} {KEY} 0 1 0 - aa")), "4 aa");
+    assert_eq!(answer("wrap 00 00 aa"), "1 aa");
+    assert_eq!(answer(&format!("wrap {KEY} 00 aa")), "18 aa");
+    assert_eq!(answer(&format!("wrap {KEY} {ZEROS} aa")), "4 aa");
+    assert_eq!(answer("unwrap - - aa"), "1 aa");
+    assert_eq!(answer(&format!("unwrap {KEY} {ZEROS} -")), "18 -");
+    assert_eq!(answer(&format!("unwrap {KEY} {ZEROS}{ZEROS} aa")), "4 aa");
+    assert_eq!(
+        answer(&format!("unwrap {KEY} {ZEROS}{ZEROS} {ZEROS}{ZEROS}")),
+        format!("19 {ZEROS}{ZEROS}")
+    );
 }
 
 #[test]
@@ -98,6 +128,11 @@ fn bad_lines() {
         "read-turn 18446744073709551616 - -",
         "write - - 4294967296 0 0 - -",
         "write - - 0 0 0 -",
+        "wrap - -",
+        "wrap - - - -",
+        "wrap 0 - -",
+        "unwrap - - 0",
+        "Unwrap - - -",
     ] {
         assert_eq!(answer(line), "?", "{line:?}");
     }

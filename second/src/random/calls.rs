@@ -2,6 +2,7 @@
 
 use super::plan::Plan;
 use super::rng::Rng;
+use super::wraps::{unwrap_words, wrap_words};
 use crate::hex::shown;
 use crate::image::{BLOCK, PAYLOAD};
 
@@ -43,6 +44,8 @@ pub const CALLS: &[Call] = &[
     call("read-start", 2, start_words),
     call("read-turn", 10, turn_words),
     call("read-complete", 2, no_words),
+    call("wrap", 2, wrap_words),
+    call("unwrap", 3, unwrap_words),
 ];
 
 pub struct Draw {
@@ -62,11 +65,11 @@ impl Draw {
         }
     }
 
-    fn hex(&mut self, length: usize) -> String {
+    pub fn hex(&mut self, length: usize) -> String {
         shown(&self.rng.bytes(length))
     }
 
-    fn key(&mut self) -> String {
+    pub fn key(&mut self) -> String {
         shown(&key(&mut self.rng))
     }
 

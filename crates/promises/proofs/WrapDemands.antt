@@ -1,0 +1,130 @@
+-- Demand 1 for the key wrap's two calls, then demands 2 and 3 for what they answer and write. Assumes nothing.
+use mathlib.Core.Path.{_≡_, refl, sym, ap, ap₂, subst, _∙_}
+use mathlib.Core.List.{List}
+use Prim.Native.Nat.{ℕ, _+_, _≤_}
+use denote.Ref.{now}
+use native.Mathlib.Omega.{arith}
+use lib.ListN.{length, take, drop}
+use Rattle.octets.specs.Octets.{Bytes}
+use Rattle.cipher.specs.Cipher.{aesOf}
+use Rattle.wrap.specs.Wrap.{wrapped}
+use Rattle.wrap.specs.Calls.{wrapNumber, wrapOutput, unwrapAnswer, unwrapOutput}
+use Rattle.wrap.specs.declared.WrapAnswer.{WrapAnswer}
+use Rattle.wrap.specs.declared.WrapAnswer.the-variants.{WrapDone, WrapKey, WrapSize, WrapRoom, WrongInitial}
+use Rattle.promises.proofs.ImageTerms.{KeyTaken}
+use Rattle.promises.proofs.WrapTerms.{afterWrap, afterUnwrap, WrapFit, WrapSays, UnwrapSays, WrappingOf}
+use Rattle.promises.proofs.WrapLaws.{wrap-keeps, unwrap-keeps}
+use Rattle.promises.proofs.Wrap.{wrap-as-told, unwrap-as-told, wrap-never-19, key-data-is-wrapped, unwrap-after-wrap, accepted-exactly-wrappings, accepted-is-handed-out}
+use Rattle.wrap.proofs.wrap.Reads as wrap
+use Rattle.wrap.proofs.unwrap.Reads as unwrap
+
+-- ---- demand 1
+
+pub wrap-asks-nothing : (κs : _) (a : _) → wrap.Asked κs a
+wrap-asks-nothing κs a = tt
+
+pub wrap-determined : (κs : _) (a : _) (r r′ : _) (s s′ : _) → wrap.Post κs a r s → wrap.Post κs a r′ s′
+    → (r ≡ r′) × (now (s .1 .1 .0) ≡ now (s′ .1 .1 .0))
+wrap-determined κs a r r′ s s′ p q =
+    let e : r ≡ r′ = p .0 ∙ sym (q .0) in
+    (e, p .1 ∙ rw e (sym (q .1)))
+
+pub wrap-refused-keeps : (κs : _) (a : _) (r : _) (s : _) → wrap.Post κs a r s → (wrapNumber r ≡ 0 → ⊥)
+    → now (s .1 .1 .0) ≡ now (a .1 .1 .0)
+wrap-refused-keeps κs a r s p h = p .1 ∙ wrap-keeps r (now (a .0)) (now (a .1 .0)) (now (a .1 .1 .0)) h
+
+pub unwrap-asks-nothing : (κs : _) (a : _) → unwrap.Asked κs a
+unwrap-asks-nothing κs a = tt
+
+pub unwrap-determined : (κs : _) (a : _) (r r′ : _) (s s′ : _) → unwrap.Post κs a r s → unwrap.Post κs a r′ s′
+    → (r ≡ r′) × (now (s .1 .1 .0) ≡ now (s′ .1 .1 .0))
+unwrap-determined κs a r r′ s s′ p q =
+    let e : r ≡ r′ = p .0 ∙ sym (q .0) in
+    (e, p .1 ∙ rw e (sym (q .1)))
+
+pub unwrap-refused-keeps : (κs : _) (a : _) (r : _) (s : _) → unwrap.Post κs a r s → (wrapNumber r ≡ 0 → ⊥)
+    → now (s .1 .1 .0) ≡ now (a .1 .1 .0)
+unwrap-refused-keeps κs a r s p h = p .1 ∙ unwrap-keeps r (now (a .0)) (now (a .1 .0)) (now (a .1 .1 .0)) h
+
+-- ---- demand 2: the answers say what the table says, and wrapping is never refused by 19
+
+pub wrap-says-why : (κs : _) (a : _) (r : _) (s : _) → wrap.Post κs a r s
+    → WrapSays (now (a .0)) (length (now (a .1 .0))) (length (now (a .1 .1 .0))) r × (wrapNumber r ≡ 19 → ⊥)
+wrap-says-why κs a r s p =
+    let key = now (a .0) in
+    let dat = now (a .1 .0) in
+    let out = now (a .1 .1 .0) in
+    (subst (WrapSays key (length dat) (length out)) (sym (p .0)) (wrap-as-told key dat out), λ e. wrap-never-19 key dat out (sym (ap wrapNumber (p .0)) ∙ e))
+
+pub unwrap-says-why : (κs : _) (a : _) (r : _) (s : _) → unwrap.Post κs a r s → UnwrapSays (now (a .0)) (now (a .1 .0)) (length (now (a .1 .1 .0))) r
+unwrap-says-why κs a r s p =
+    let key = now (a .0) in
+    let dat = now (a .1 .0) in
+    let out = now (a .1 .1 .0) in
+    subst (UnwrapSays key dat (length out)) (sym (p .0)) (unwrap-as-told key dat out)
+
+-- ---- demands 2 and 3: what a call that is done wrote
+
+done : (r : WrapAnswer) → wrapNumber r ≡ 0 → r ≡ WrapDone
+done WrapDone e = refl
+done WrapKey e = absurd (omega arith)
+done WrapSize e = absurd (omega arith)
+done WrapRoom e = absurd (omega arith)
+done WrongInitial e = absurd (omega arith)
+
+module _ (κs : _) (a : _) (r : _) (s : _) (p : wrap.Post κs a r s) (z : wrapNumber r ≡ 0) (bytes : Bytes (now (a .1 .0))) where
+  fit : WrapFit (now (a .0)) (length (now (a .1 .0))) (length (now (a .1 .1 .0)))
+  fit = subst (WrapSays (now (a .0)) (length (now (a .1 .0))) (length (now (a .1 .1 .0)))) (sym (p .0) ∙ done r z) (wrap-as-told (now (a .0)) (now (a .1 .0)) (now (a .1 .1 .0)))
+
+  left : now (s .1 .1 .0) ≡ afterWrap (now (a .0)) (now (a .1 .0)) (now (a .1 .1 .0))
+  left = p .1 ∙ ap (λ (x : WrapAnswer). wrapOutput x (now (a .0)) (now (a .1 .0)) (now (a .1 .1 .0))) (p .0)
+
+  -- the wrapping of its data under its key, and the rest as it was
+  pub wrap-is-rfc-3394 : (take (length (now (a .1 .0)) + 8) (now (s .1 .1 .0)) ≡ wrapped (aesOf (now (a .0))) (now (a .1 .0)))
+      × (drop (length (now (a .1 .0)) + 8) (now (s .1 .1 .0)) ≡ drop (length (now (a .1 .0)) + 8) (now (a .1 .1 .0)))
+  wrap-is-rfc-3394 =
+      let n = length (now (a .1 .0)) + 8 in
+      let w = key-data-is-wrapped (now (a .0)) (now (a .1 .0)) (fit .key-taken) bytes (fit .size-fits) (now (a .1 .1 .0)) (fit .roomy) in
+      (ap (take n) left ∙ w .1, ap (drop n) left ∙ w .2)
+
+  -- `unwrap` under the same key over what it wrote, into an output that has room, is done, and hands out what `wrap` was given
+  pub unwrap-undoes-wrap : (κs′ : _) (a′ : _) (r′ : _) (s′ : _) → unwrap.Post κs′ a′ r′ s′
+      → now (a′ .0) ≡ now (a .0) → now (a′ .1 .0) ≡ take (length (now (a .1 .0)) + 8) (now (s .1 .1 .0)) → length (now (a .1 .0)) ≤ length (now (a′ .1 .1 .0))
+      → (wrapNumber r′ ≡ 0)
+      × (take (length (now (a .1 .0))) (now (s′ .1 .1 .0)) ≡ now (a .1 .0))
+      × (drop (length (now (a .1 .0))) (now (s′ .1 .1 .0)) ≡ drop (length (now (a .1 .0))) (now (a′ .1 .1 .0)))
+  unwrap-undoes-wrap κs′ a′ r′ s′ q same-key offered room =
+      let key = now (a .0) in
+      let dat = now (a .1 .0) in
+      let out = now (a .1 .1 .0) in
+      let out′ = now (a′ .1 .1 .0) in
+      let n = length dat in
+      let d = take (n + 8) (afterWrap key dat out) in
+      let e : now (a′ .1 .0) ≡ d = offered ∙ ap (take (n + 8)) left in
+      let answer : r′ ≡ unwrapAnswer key d out′ = q .0 ∙ ap₂ (λ (k x : List ℕ). unwrapAnswer k x out′) same-key e in
+      let output : now (s′ .1 .1 .0) ≡ afterUnwrap key d out′ =
+      q .1 ∙ ap₂ (λ (k x : List ℕ). unwrapOutput r′ k x out′) same-key e ∙ ap (λ (x : WrapAnswer). unwrapOutput x key d out′) answer in
+      let w = unwrap-after-wrap key dat (fit .key-taken) bytes (fit .size-fits) out out′ (fit .roomy) room in
+      (ap wrapNumber (answer ∙ w .0), ap (take n) output ∙ w .1, ap (drop n) output ∙ w .2)
+
+-- `unwrap`, under a key that is taken and with room, accepts exactly the wrappings, under its key, of key data of a size in the rule
+pub unwrap-accepts-exactly : (κs : _) (a : _) (r : _) (s : _) → unwrap.Post κs a r s
+    → KeyTaken (now (a .0)) → Bytes (now (a .1 .0)) → length (now (a .1 .0)) ≤ length (now (a .1 .1 .0)) + 8
+    → (wrapNumber r ≡ 0 → WrappingOf (now (a .0)) (now (a .1 .0))) × (WrappingOf (now (a .0)) (now (a .1 .0)) → wrapNumber r ≡ 0)
+unwrap-accepts-exactly κs a r s p taken bytes room =
+    let x = accepted-exactly-wrappings (now (a .0)) (now (a .1 .0)) (now (a .1 .1 .0)) taken bytes room in
+    (λ z. x .0 (sym (p .0) ∙ done r z), λ y. ap wrapNumber (p .0 ∙ x .1 y))
+
+-- and hands out the key data whose wrapping it is
+module _ (κs : _) (a : _) (r : _) (s : _) (p : unwrap.Post κs a r s) (z : wrapNumber r ≡ 0) where
+  pub unwrap-hands-out : (x : WrappingOf (now (a .0)) (now (a .1 .0)))
+      → (length (x .plain) + 8 ≡ length (now (a .1 .0)))
+      × (take (length (x .plain)) (now (s .1 .1 .0)) ≡ x .plain)
+      × (drop (length (x .plain)) (now (s .1 .1 .0)) ≡ drop (length (x .plain)) (now (a .1 .1 .0)))
+  unwrap-hands-out x =
+      let key = now (a .0) in
+      let dat = now (a .1 .0) in
+      let out = now (a .1 .1 .0) in
+      let output : now (s .1 .1 .0) ≡ afterUnwrap key dat out = p .1 ∙ ap (λ (y : WrapAnswer). unwrapOutput y key dat out) (p .0) in
+      let w = accepted-is-handed-out key dat out (sym (p .0) ∙ done r z) x in
+      (w .0, ap (take (length (x .plain))) output ∙ w .1, ap (drop (length (x .plain))) output ∙ w .2)

@@ -1,0 +1,160 @@
+-- From what the parts of a call give to what the call is to give. Assumes nothing.
+use mathlib.Core.Path.{_≡_, refl, sym, ap, _∙_}
+use mathlib.Core.Bool.{Bool, true, false}
+use mathlib.Core.List.{List, [], _∷_}
+use Prim.Native.Nat.{ℕ, _+_, _-_, _%_, _≤_}
+use native.Mathlib.Omega.{arith}
+use types.Run.{OneOf, miss}
+use denote.Enum.Declared.{tagOf}
+use borrow.Author.Tests.{eqb-true, ltb-false}
+use lib.Dec.{eqb, ltb}
+use lib.ListN.{length, drop}
+use Rattle.octets.specs.Octets.{Bytes, choose, tabulate}
+use Rattle.octets.specs.Blocks.{Lawful}
+use Rattle.sbox.specs.Sbox.{sBox, invSBox, entry}
+use Rattle.schedule.specs.Schedule.{scheduleOf, keyNumber}
+use Rattle.schedule.specs.declared.Expanded.{Expanded}
+use Rattle.schedule.proofs.Laws.{schedule-table}
+use Rattle.cipher.specs.Cipher.{aesOf}
+use Rattle.cipher.proofs.Lawful.{key-lawful}
+use Rattle.blocks.specs.Blocks.{same}
+use Rattle.modes.specs.Modes.{over}
+use Rattle.wrap.specs.Wrap.{initial, register, wrapped, unwrapped}
+use Rattle.wrap.specs.Calls.{sizeFits, wrappedSizeFits, wrapRuled, wrapAnswer, wrapOutput, opening, unwrapAnswer, unwrapOutput}
+use Rattle.wrap.specs.Lent.{lentEnc, lentDec, openedOver}
+use Rattle.wrap.specs.declared.WrapAnswer.{WrapAnswer}
+use Rattle.wrap.specs.declared.WrapAnswer.the-variants.{WrapDone, WrapKey, WrapSize, WrapRoom, WrongInitial}
+use Rattle.wrap.proofs.WrapAnswer.{the-type}
+use Rattle.wrap.proofs.Sizes.{size-parts, wrapped-size-parts}
+use Rattle.wrap.proofs.Agree.{wrapped-same, unwrapped-same, enc-agrees, dec-agrees}
+
+-- the tag of an answer that is not the first case
+abbrev pub Refused : WrapAnswer → Type 0
+Refused a = OneOf (1 ∷ 2 ∷ 3 ∷ 4 ∷ []) (tagOf the-type a)
+
+not-done : (a : WrapAnswer) → Refused a → a ≡ WrapDone → ⊥
+not-done a h e = miss (1 ∷ 2 ∷ 3 ∷ 4 ∷ []) 0 tt (rw e at h)
+
+-- an answer that is not the first case leaves the output as it was
+pub wrap-kept : (a : WrapAnswer) (key dat out : List ℕ) → Refused a → out ≡ wrapOutput a key dat out
+wrap-kept WrapDone key dat out h = absurd (not-done WrapDone h refl)
+wrap-kept WrapKey key dat out h = refl
+wrap-kept WrapSize key dat out h = refl
+wrap-kept WrapRoom key dat out h = refl
+wrap-kept WrongInitial key dat out h = refl
+
+pub unwrap-kept : (a : WrapAnswer) (key dat out : List ℕ) → Refused a → out ≡ unwrapOutput a key dat out
+unwrap-kept WrapDone key dat out h = absurd (not-done WrapDone h refl)
+unwrap-kept WrapKey key dat out h = refl
+unwrap-kept WrapSize key dat out h = refl
+unwrap-kept WrapRoom key dat out h = refl
+unwrap-kept WrongInitial key dat out h = refl
+
+-- ---- the tests, in their order
+
+-- what they have shown of a call that is not refused
+record Passed (key : ℕ) (size : Bool) (result out : ℕ) : Type 0 where
+  key-taken : key ≡ 0
+  size-right : size ≡ true
+  room : result ≤ out
+
+module _ (key : ℕ) (size : Bool) (result out : ℕ) where
+  chosen : (k s r : Bool) → choose k (choose s (choose r WrapRoom WrapDone) WrapSize) WrapKey ≡ WrapDone → (k ≡ true) × (s ≡ true) × (r ≡ false)
+  chosen true true false e = (refl, refl, refl)
+  chosen true true true e = let y : _≡_ {A = ℕ} 0 1 = cc in absurd (omega arith)
+  chosen true false r e = let y : _≡_ {A = ℕ} 0 1 = cc in absurd (omega arith)
+  chosen false s r e = let y : _≡_ {A = ℕ} 0 1 = cc in absurd (omega arith)
+
+  passed : wrapRuled key size result out WrapDone ≡ WrapDone → Passed key size result out
+  unfolding wrapRuled
+  passed e =
+      let t = chosen (eqb key 0) size (ltb out result) e in
+      record { key-taken = eqb-true key 0 (t .0); size-right = t .1; room = ltb-false out result (t .2) }
+
+  -- what comes after them counts where they pass, and only there
+  ruled-through : (z : WrapAnswer) → wrapRuled key size result out WrapDone ≡ WrapDone → wrapRuled key size result out z ≡ z
+  unfolding wrapRuled
+  ruled-through z e = let t = chosen (eqb key 0) size (ltb out result) e in rw (t .0, t .1, t .2)
+
+  ruled-refused : (z a : WrapAnswer) → a ≡ wrapRuled key size result out WrapDone → Refused a → a ≡ wrapRuled key size result out z
+  unfolding wrapRuled
+  ruled-refused z a e h = go (eqb key 0) size (ltb out result) e
+    where
+      go : (k s r : Bool) → a ≡ choose k (choose s (choose r WrapRoom WrapDone) WrapSize) WrapKey → a ≡ choose k (choose s (choose r WrapRoom z) WrapSize) WrapKey
+      go true true false f = absurd (not-done a h f)
+      go true true true f = f
+      go true false r f = f
+      go false s r f = f
+
+-- ---- the calls
+
+module _ (key t : List ℕ) (x : Expanded) (pt : t ≡ tabulate 256 sBox) (px : x ≡ scheduleOf (entry t) key) (dat out : List ℕ) (a : WrapAnswer) where
+  made-is : x ≡ scheduleOf sBox key
+  made-is = px ∙ ap (λ (y : List ℕ). scheduleOf (entry y) key) pt ∙ schedule-table sBox key
+
+  lawful : keyNumber (x .answer) ≡ 0 → Lawful 16 (aesOf key)
+  lawful e = key-lawful key (ap (λ (y : Expanded). keyNumber (y .answer)) (sym made-is) ∙ e)
+
+  module _ (pa : a ≡ wrapRuled (keyNumber (x .answer)) (sizeFits (length dat)) (length dat + 8) (length out) WrapDone) where
+    pub wrap-answered : a ≡ wrapAnswer key dat out
+    unfolding wrapAnswer
+    wrap-answered = pa ∙ ap (λ (y : Expanded). wrapRuled (keyNumber (y .answer)) (sizeFits (length dat)) (length dat + 8) (length out) WrapDone) made-is
+
+    module _ (q : a ≡ WrapDone) where
+      wrap-passed : Passed (keyNumber (x .answer)) (sizeFits (length dat)) (length dat + 8) (length out)
+      wrap-passed = passed (keyNumber (x .answer)) (sizeFits (length dat)) (length dat + 8) (length out) (sym pa ∙ q)
+
+      pub wrap-fits : (length dat ≤ 64) × (length dat % 8 ≡ 0) × (length dat + 8 ≤ length out)
+      wrap-fits = let s = size-parts (length dat) (wrap-passed .size-right) in (s .1, s .2, wrap-passed .room)
+
+      pub wrapped-by : (o : List ℕ) → Bytes dat → o ≡ over (wrapped (lentEnc t (x .schedule .words) (x .schedule .rounds)) dat) out → o ≡ wrapOutput a key dat out
+      wrapped-by o b po =
+          let w = scheduleOf sBox key .schedule .words in
+          let nr = scheduleOf sBox key .schedule .rounds in
+          po ∙ rw (q, made-is)
+          (ap (λ (y : List ℕ). over y out) (wrapped-same (lentEnc t w nr) (aesOf key) (enc-agrees t w nr pt) (lawful (wrap-passed .key-taken)) dat (wrap-fits .1) b))
+
+  module _ (pa : a ≡ wrapRuled (keyNumber (x .answer)) (wrappedSizeFits (length dat)) (length dat - 8) (length out) WrapDone) where
+    pub unwrap-refused : Refused a → a ≡ unwrapAnswer key dat out
+    unfolding unwrapAnswer
+    unwrap-refused h =
+        ruled-refused (keyNumber (x .answer)) (wrappedSizeFits (length dat)) (length dat - 8) (length out) (opening (aesOf key) dat) a pa h
+        ∙ ap (λ (y : Expanded). wrapRuled (keyNumber (y .answer)) (wrappedSizeFits (length dat)) (length dat - 8) (length out) (opening (aesOf key) dat)) made-is
+
+    module _ (q : a ≡ WrapDone) where
+      unwrap-passed : Passed (keyNumber (x .answer)) (wrappedSizeFits (length dat)) (length dat - 8) (length out)
+      unwrap-passed = passed (keyNumber (x .answer)) (wrappedSizeFits (length dat)) (length dat - 8) (length out) (sym pa ∙ q)
+
+      pub unwrap-fits : (8 ≤ length dat) × (length dat ≤ 72) × (length dat % 8 ≡ 0) × (length dat ≤ length out + 8)
+      unwrap-fits =
+          let s = wrapped-size-parts (length dat) (unwrap-passed .size-right) in
+          (omega (arith, s .0), s .1, s .2, omega (arith, unwrap-passed .room))
+
+      module _ (t' : List ℕ) (pi : t' ≡ tabulate 256 invSBox) (b : Bytes dat) where
+        unwrapped-is : unwrapped (lentDec t' (x .schedule .words) (x .schedule .rounds)) dat ≡ unwrapped (aesOf key) dat
+        unwrapped-is =
+            let w = scheduleOf sBox key .schedule .words in
+            let nr = scheduleOf sBox key .schedule .rounds in
+            let f = unwrap-fits in
+            rw made-is (unwrapped-same (lentDec t' w nr) (aesOf key) (dec-agrees t' w nr pi) (lawful (unwrap-passed .key-taken)) dat (f .0) (f .2) b)
+
+        module _ (r : WrapAnswer) (pr : r ≡ opening (lentDec t' (x .schedule .words) (x .schedule .rounds)) dat) where
+          opening-is : r ≡ opening (aesOf key) dat
+          opening-is = pr ∙ ap (λ (u : List ℕ). choose (same (register u 0) initial) WrapDone WrongInitial) unwrapped-is
+
+          pub unwrap-answered : r ≡ unwrapAnswer key dat out
+          unfolding unwrapAnswer
+          unwrap-answered =
+              opening-is
+              ∙ sym (ruled-through (keyNumber (x .answer)) (wrappedSizeFits (length dat)) (length dat - 8) (length out) (opening (aesOf key) dat) (sym pa ∙ q))
+              ∙ ap (λ (y : Expanded). wrapRuled (keyNumber (y .answer)) (wrappedSizeFits (length dat)) (length dat - 8) (length out) (opening (aesOf key) dat)) made-is
+
+          pub unwrapped-by : (o : List ℕ) → o ≡ openedOver (lentDec t' (x .schedule .words) (x .schedule .rounds)) dat out → o ≡ unwrapOutput r key dat out
+          unwrapped-by o po =
+              po ∙ ap (λ (u : List ℕ). choose (same (register u 0) initial) (over (drop 8 u) out) out) unwrapped-is
+              ∙ each (same (register (unwrapped (aesOf key) dat) 0) initial)
+              ∙ ap (λ (z : WrapAnswer). unwrapOutput z key dat out) (sym opening-is)
+            where
+              each : (s : Bool) → choose s (over (drop 8 (unwrapped (aesOf key) dat)) out) out ≡ unwrapOutput (choose s WrapDone WrongInitial) key dat out
+              each true = refl
+              each false = refl

@@ -1,0 +1,54 @@
+use lib.ListN.{length}
+use Prim.Native.Nat.{_-_}
+use mathlib.Core.Path.{refl}
+use Rattle.wrap.specs.Lent.{lentDec}
+use Rattle.wrap.proofs.Building.{opened-by, opened-size}
+use native.Mathlib.Omega.{arith}
+use borrow.Author.Needs.{needs}
+use Rattle.wrap.proofs.opened.Statement.{statement}
+use Rattle.wrap.proofs.opened.Tie as tie
+
+slice-aggregate-copy : tie.Need-slice-aggregate-copy
+slice-aggregate-copy c = search needs
+
+copy-requires : tie.Need-copy-requires
+copy-requires c κs = search needs
+
+sub-unpasses : tie.Need-sub-unpasses
+sub-unpasses c = search needs
+
+sub-unpasses-2 : tie.Need-sub-unpasses-2
+sub-unpasses-2 c = search needs
+
+part-w-start : tie.Need-part-w-start
+part-w-start c = search needs
+
+part-w-end : tie.Need-part-w-end
+part-w-end c = search needs
+
+unpasses-requires : tie.Need-unpasses-requires
+unpasses-requires c κs = search needs
+
+returns : tie.Need-returns
+returns c =
+    let u = c .before .unpasses in
+    let cp = c .before .before .before .before .copy in
+    let s = c .before .before .before .before .before .before .before in
+    let a = s .args in
+    let k = lentDec (a .inv .now) (a .words .now) (a .rounds) in (
+      opened-by k (a .given .now) (length (a .given .now) - 0) (omega arith) _ _ _ (cp .ensures) (u .ensures) (u .kept .1 .1 .1 .1 .0) refl,
+      opened-size k (a .given .now) (length (a .given .now) - 0) (omega arith) _ _ _ (cp .ensures) (u .ensures) (u .kept .1 .1 .1 .1 .0) refl,
+    )
+
+pub opened-spec : {M : Type 1} → statement M
+opened-spec =
+    tie.close
+    (tie.spec
+    slice-aggregate-copy
+    copy-requires
+    sub-unpasses
+    sub-unpasses-2
+    part-w-start
+    part-w-end
+    unpasses-requires
+    returns)

@@ -1,0 +1,60 @@
+use Rattle.blocks.specs.Blocks.{same}
+use Rattle.wrap.specs.Wrap.{initial}
+use Rattle.wrap.proofs.Places.{initial-step, initial-differs, initial-end}
+use mathlib.Core.Path.{_≡_, refl, _∙_}
+use Prim.Native.Nat.{_-_, _≤_}
+use lib.ListN.{take, drop}
+use borrow.Author.Needs.{needs}
+use native.Mathlib.Omega.{arith}
+use Rattle.wrap.proofs.registers.is_initial.Statement.{statement}
+use Rattle.wrap.proofs.registers.is_initial.Tie as tie
+
+abbrev Inv-loop : tie.InvT-loop
+Inv-loop w at₀ at = (at ≤ 8) × (same (drop at (take 8 w)) (drop at initial) ≡ same (take 8 w) initial)
+
+abbrev μ-loop : tie.MeasureT-loop
+μ-loop w at₀ at = 8 - at
+
+loop-holds : tie.Need-loop-holds Inv-loop μ-loop
+loop-holds c = (omega arith, refl)
+
+shared-slice-read-if1 : tie.Need-shared-slice-read-if1 Inv-loop μ-loop
+shared-slice-read-if1 c = search needs
+
+returns : tie.Need-returns Inv-loop μ-loop
+returns c =
+    let l = c .before .before .before .loop in
+    let s = c .before .before .before .before in
+    initial-differs (s .args .w .now) (s .pre) (l .at) (omega arith) (c .if1 .taken) ∙ l .inv .1
+
+add-at : tie.Need-add-at Inv-loop μ-loop
+add-at c = search needs
+
+loop-less : tie.Need-loop-less Inv-loop μ-loop
+loop-less c = search needs
+
+loop-again : tie.Need-loop-again Inv-loop μ-loop
+loop-again c =
+    let l = c .before .before .before .loop in
+    let s = c .before .before .before .before in
+    (omega arith, initial-step (s .args .w .now) (s .pre) (l .at) (omega arith) (c .if1 .left) ∙ l .inv .1)
+
+returns-2 : tie.Need-returns-2 Inv-loop μ-loop
+returns-2 c =
+    let l = c .before .loop in
+    let s = c .before .before in
+    initial-end (s .args .w .now) (s .pre) (l .at) (omega arith) ∙ l .inv .1
+
+pub is-initial-spec : {M : Type 1} → statement M
+is-initial-spec =
+    tie.close
+    (tie.spec
+    Inv-loop
+    μ-loop
+    loop-holds
+    shared-slice-read-if1
+    returns
+    add-at
+    loop-less
+    loop-again
+    returns-2)

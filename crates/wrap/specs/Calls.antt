@@ -1,0 +1,61 @@
+-- The calls: wrapping and unwrapping under a key. Assumes nothing: these are definitions.
+use Prim.Native.Nat.{ℕ, _+_, _-_, _%_}
+use mathlib.Core.Bool.{Bool, _&&_}
+use mathlib.Core.List.{List}
+use lib.Dec.{eqb, ltb, leb}
+use lib.ListN.{length, drop}
+use Rattle.octets.specs.Octets.{choose}
+use Rattle.octets.specs.Blocks.{BlockCipher}
+use Rattle.sbox.specs.Sbox.{sBox}
+use Rattle.schedule.specs.Schedule.{scheduleOf, keyNumber}
+use Rattle.cipher.specs.Cipher.{aesOf}
+use Rattle.blocks.specs.Blocks.{same}
+use Rattle.modes.specs.Modes.{over}
+use Rattle.wrap.specs.Wrap.{initial, register, wrapped, unwrapped}
+use Rattle.wrap.specs.declared.WrapAnswer.{WrapAnswer}
+use Rattle.wrap.specs.declared.WrapAnswer.the-variants.{WrapDone, WrapKey, WrapSize, WrapRoom, WrongInitial}
+
+-- the number of each answer
+abbrev pub wrapNumber : WrapAnswer → ℕ
+wrapNumber WrapDone = 0
+wrapNumber WrapKey = 1
+wrapNumber WrapRoom = 4
+wrapNumber WrapSize = 18
+wrapNumber WrongInitial = 19
+
+-- key data is 16 to 64 bytes and a multiple of 8; wrapped data has 8 bytes more
+abbrev pub sizeFits : ℕ → Bool
+sizeFits n = leb 16 n && (leb n 64 && eqb (n % 8) 0)
+
+abbrev pub wrappedSizeFits : ℕ → Bool
+wrappedSizeFits n = leb 24 n && (leb n 72 && eqb (n % 8) 0)
+
+-- 1, 18, 4, in that order, of the key's number, whether the length is in the rule, the length of the result and that of the output
+unfoldable pub wrapRuled : (key : ℕ) (size : Bool) (result out : ℕ) → WrapAnswer → WrapAnswer
+wrapRuled key size result out answer =
+    choose (eqb key 0) (choose size (choose (ltb out result) WrapRoom answer) WrapSize) WrapKey
+
+unfoldable pub wrapAnswer : (key dat out : List ℕ) → WrapAnswer
+wrapAnswer key dat out = wrapRuled (keyNumber (scheduleOf sBox key .answer)) (sizeFits (length dat)) (length dat + 8) (length out) WrapDone
+
+-- the output afterwards: the result, and the rest as it was; after a refusal, as it was
+abbrev pub wrapOutput : WrapAnswer → (key dat out : List ℕ) → List ℕ
+wrapOutput WrapDone key dat out = over (wrapped (aesOf key) dat) out
+wrapOutput WrapKey key dat out = out
+wrapOutput WrapSize key dat out = out
+wrapOutput WrapRoom key dat out = out
+wrapOutput WrongInitial key dat out = out
+
+-- then 19: all eight bytes of A are compared with the initial value
+abbrev pub opening : BlockCipher → List ℕ → WrapAnswer
+opening c dat = choose (same (register (unwrapped c dat) 0) initial) WrapDone WrongInitial
+
+unfoldable pub unwrapAnswer : (key dat out : List ℕ) → WrapAnswer
+unwrapAnswer key dat out = wrapRuled (keyNumber (scheduleOf sBox key .answer)) (wrappedSizeFits (length dat)) (length dat - 8) (length out) (opening (aesOf key) dat)
+
+abbrev pub unwrapOutput : WrapAnswer → (key dat out : List ℕ) → List ℕ
+unwrapOutput WrapDone key dat out = over (drop 8 (unwrapped (aesOf key) dat)) out
+unwrapOutput WrapKey key dat out = out
+unwrapOutput WrapSize key dat out = out
+unwrapOutput WrapRoom key dat out = out
+unwrapOutput WrongInitial key dat out = out

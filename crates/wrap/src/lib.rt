@@ -1,0 +1,176 @@
+// The key wrap of RFC 3394 under AES: replacement keys, wrapped under a key that the receiver has.
+mod registers;
+mod steps;
+
+use crate::registers::copy;
+use crate::registers::is_initial;
+use crate::steps::passes;
+use crate::steps::unpasses;
+use sbox::inv_table;
+use sbox::table;
+use schedule::KeyAnswer;
+use schedule::KeySchedule;
+ghost use mathlib.Core.Path.{_≡_};
+ghost use Prim.Native.Nat.{_+_, _-_, _%_, _≤_};
+ghost use lib.ListN.{length};
+ghost use Rattle.octets.specs.Octets.{padTo};
+ghost use Rattle.schedule.specs.Schedule.{keyNumber};
+ghost use Rattle.modes.specs.Modes.{over};
+ghost use Rattle.wrap.specs.Wrap.{wrapped, unwrapped};
+ghost use Rattle.wrap.specs.Lent.{lentEnc, lentDec, openedOver};
+ghost use Rattle.wrap.specs.declared.WrapAnswer.the-variants.{WrapDone};
+ghost use Rattle.wrap.specs.Calls as spec;
+
+// The case of the call, or why it was refused.
+pub enum WrapAnswer {
+    WrapDone,
+    WrapKey,
+    WrapSize,
+    WrapRoom,
+    WrongInitial,
+}
+
+// Wraps 16 to 64 bytes of key data, a multiple of 8; the result, 8 bytes more, goes into the first bytes of the output.
+// A refused call leaves the output as it was, and so do bytes of it past the result.
+pub fn wrap(key: &[u8], data: &[u8], output: &mut [u8]) -> WrapAnswer
+    ensures answer { λ r. ⌜ r ≡ spec.wrapAnswer (now (key .entry)) (now («data» .entry)) (now (output .entry)) ⌝ }
+    ensures written { λ r. ⌜ now (output .exit) ≡ spec.wrapOutput r (now (key .entry)) (now («data» .entry)) (now (output .entry)) ⌝ }
+{
+    let sbox = table();
+    let made = KeySchedule::with(&sbox, key);
+    let taken = made.answer;
+    let schedule = made.schedule;
+    let words = schedule.words;
+    let answer = judge_wrap(taken, data.len(), output.len());
+    let WrapAnswer::WrapDone = answer else {
+        return answer;
+    };
+    wrap_into(&sbox, &words, schedule.rounds, data, output);
+    answer
+}
+
+// Unwraps 24 to 72 bytes, a multiple of 8, and hands out the key data, 8 bytes less, once its check is known to be right.
+// A refused call leaves the output as it was, and so do bytes of it past the result.
+pub fn unwrap(key: &[u8], data: &[u8], output: &mut [u8]) -> WrapAnswer
+    ensures answer { λ r. ⌜ r ≡ spec.unwrapAnswer (now (key .entry)) (now («data» .entry)) (now (output .entry)) ⌝ }
+    ensures written { λ r. ⌜ now (output .exit) ≡ spec.unwrapOutput r (now (key .entry)) (now («data» .entry)) (now (output .entry)) ⌝ }
+{
+    let sbox = table();
+    let made = KeySchedule::with(&sbox, key);
+    let taken = made.answer;
+    let schedule = made.schedule;
+    let words = schedule.words;
+    let answer = judge_unwrap(taken, data.len(), output.len());
+    let WrapAnswer::WrapDone = answer else {
+        return answer;
+    };
+    let inv = inv_table();
+    unwrap_into(&inv, &words, schedule.rounds, data, output)
+}
+
+// Whether key data may have this length.
+fn size_fits(len: usize) -> bool
+    ensures { λ r. ⌜ r ≡ spec.sizeFits len ⌝ }
+{
+    if len < 16 {
+        return false;
+    }
+    if len > 64 {
+        return false;
+    }
+    len % 8 == 0
+}
+
+fn wrapped_size_fits(len: usize) -> bool
+    ensures { λ r. ⌜ r ≡ spec.wrappedSizeFits len ⌝ }
+{
+    if len < 24 {
+        return false;
+    }
+    if len > 72 {
+        return false;
+    }
+    len % 8 == 0
+}
+
+// The answer of wrapping, from that for the key and the lengths of data and output.
+fn judge_wrap(key: KeyAnswer, len: usize, room: usize) -> WrapAnswer
+    ensures { λ r. ⌜ r ≡ spec.wrapRuled (keyNumber key) (spec.sizeFits len) (len + 8) room WrapDone ⌝ }
+{
+    let KeyAnswer::Taken = key else {
+        return WrapAnswer::WrapKey;
+    };
+    if !size_fits(len) {
+        return WrapAnswer::WrapSize;
+    }
+    if room < len + 8 {
+        return WrapAnswer::WrapRoom;
+    }
+    WrapAnswer::WrapDone
+}
+
+// The answer of unwrapping, but for what only the unwrapped registers can tell.
+fn judge_unwrap(key: KeyAnswer, len: usize, room: usize) -> WrapAnswer
+    ensures { λ r. ⌜ r ≡ spec.wrapRuled (keyNumber key) (spec.wrappedSizeFits len) (len - 8) room WrapDone ⌝ }
+{
+    let KeyAnswer::Taken = key else {
+        return WrapAnswer::WrapKey;
+    };
+    if !wrapped_size_fits(len) {
+        return WrapAnswer::WrapSize;
+    }
+    if room < len - 8 {
+        return WrapAnswer::WrapRoom;
+    }
+    WrapAnswer::WrapDone
+}
+
+// The registers stand in the output from the start, so that no memory beside it holds key data.
+fn wrap_into(sbox: &[u8; 256], words: &[u32; 60], rounds: usize, given: &[u8], output: &mut [u8])
+    requires { ⌜ (length (now given) ≤ 64) × (length (now given) % 8 ≡ 0) × (length (now given) + 8 ≤ length (now output)) ⌝ }
+    ensures { λ _. ⌜ now (output .exit) ≡ over (wrapped (lentEnc (now (sbox .entry)) (now (words .entry)) rounds) (now (given .entry))) (now (output .entry)) ⌝ }
+{
+    let first = [0xa6u8; 8];
+    copy(&first, output, 0);
+    copy(given, output, 8);
+    let len = given.len() + 8;
+    passes(sbox, words, rounds, given.len() / 8, &mut output[0..len]);
+}
+
+// Works in memory of its own: nothing of a wrapped key whose check is wrong reaches the output.
+fn unwrap_into(
+    inv: &[u8; 256],
+    words: &[u32; 60],
+    rounds: usize,
+    given: &[u8],
+    output: &mut [u8],
+) -> WrapAnswer
+    requires { ⌜ (8 ≤ length (now given)) × (length (now given) ≤ 72) × (length (now given) % 8 ≡ 0) × (length (now given) ≤ length (now output) + 8) ⌝ }
+    ensures answer { λ r. ⌜ r ≡ spec.opening (lentDec (now (inv .entry)) (now (words .entry)) rounds) (now (given .entry)) ⌝ }
+    ensures written { λ r. ⌜ now (output .exit) ≡ openedOver (lentDec (now (inv .entry)) (now (words .entry)) rounds) (now (given .entry)) (now (output .entry)) ⌝ }
+{
+    let w = opened(inv, words, rounds, given);
+    if !is_initial(&w) {
+        return WrapAnswer::WrongInitial;
+    }
+    copy(&w[8..given.len()], output, 0);
+    WrapAnswer::WrapDone
+}
+
+// The registers at the end, then zeros.
+fn opened(inv: &[u8; 256], words: &[u32; 60], rounds: usize, given: &[u8]) -> [u8; 72]
+    requires { ⌜ (8 ≤ length (now given)) × (length (now given) ≤ 72) × (length (now given) % 8 ≡ 0) ⌝ }
+    ensures registers { λ r. ⌜ r ≡ padTo 72 (unwrapped (lentDec (now (inv .entry)) (now (words .entry)) rounds) (now (given .entry))) ⌝ }
+    ensures size { λ _. ⌜ length (unwrapped (lentDec (now (inv .entry)) (now (words .entry)) rounds) (now (given .entry))) ≡ length (now (given .entry)) ⌝ }
+{
+    let mut w = [0u8; 72];
+    copy(given, &mut w, 0);
+    unpasses(
+        inv,
+        words,
+        rounds,
+        given.len() / 8 - 1,
+        &mut w[0..given.len()],
+    );
+    w
+}
