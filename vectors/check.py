@@ -67,7 +67,7 @@ def examples(root, size):
 def before_any_start(book):
     """The zero record: feeding is accepted and the check is zeros."""
     book.group("before any start: the zero record, fed and closed",
-               "docs/CONSOLE.md (zero record) with readings.md, point 10 (its check is zeros)")
+               "docs/CONSOLE.md (zero record) with docs/DECISIONS.md, reading 10 (its check is zeros)")
     book.add("check-close", ZERO_CHECK)
     book.add("check-feed 00", "0")
     book.add("check-feed -", "0")
@@ -167,7 +167,7 @@ def refusals(book, root):
     for size in WRONG_KEY_SIZES:
         book.add("check-start " + h(counting(size)), "1")
     book.group("after a refused start, one in the middle of feeding too: the zero record, whose check is zeros",
-               "docs/CONSOLE.md with readings.md, point 10")
+               "docs/CONSOLE.md with docs/DECISIONS.md, reading 10")
     for size in WRONG_KEY_SIZES:
         start(book, key)
         feed(book, [message[:30]])
@@ -214,7 +214,7 @@ def main(root, folder):
     book.remark("Made by check.py from the packages python3-cryptography-vectors 38.0.4-1 and "
                 "golang-github-jacobsa-crypto-dev 0.0~git20190317.9f44e2d+dfsg1-4 (Debian 12). No answer comes from "
                 "running a cipher of this project: all are copied from the named source or follow from the rules of "
-                "document 01, docs/CONSOLE.md and readings.md.")
+                "document 01, docs/CONSOLE.md and docs/DECISIONS.md.")
     book.remark("python3-cryptography-vectors holds none of NIST's CAVS files for CMAC, only the examples of SP "
                 "800-38B. Message lengths that these lack come from the list made by RFC 4493's reference program; "
                 "they are published test data, but not a standard's own, and AES-128 only.")

@@ -11,7 +11,7 @@ WRONG_KEY_SIZES = (0, 15, 17, 23, 25, 31, 33, 64)
 RULES = "document 01, image blocks"
 ORDERS = "document 01, orders"
 OPENSSL = "OpenSSL; document 01, image blocks"
-STATE = "docs/CONSOLE.md (zero state) with readings.md, point 10"
+STATE = "docs/CONSOLE.md (zero state) with docs/DECISIONS.md, reading 10"
 LARGEST = 2**32 - 1
 
 
@@ -341,7 +341,7 @@ def lent_lengths(book):
     image = Image(2, 8, 480)
     both = b"".join(image.blocks)
     book.group("lent lengths that are no multiple of 512: 6, also where the asked blocks lie inside the whole part; the "
-               "right blocks are accepted afterwards", "document 01, refusal 6; readings.md, point 1")
+               "right blocks are accepted afterwards", "document 01, refusal 6; docs/DECISIONS.md, reading 1")
     start(book)
     for size in (1, 15, 16, 496, 511, 513, 528, 1023):
         turn(book, 1, [both[:size]], filler(480), number=6)
@@ -357,7 +357,7 @@ def output_sizes(book):
     """Outputs against 480k."""
     image = Image(3, 66, 5)
     book.group("outputs one byte shorter than 480k: 4, k being the smaller of lent and asked", "document 01, refusal 4; "
-               "readings.md, point 2")
+               "docs/DECISIONS.md, reading 2")
     start(book)
     for lent, asked, out in ((1, 1, 479), (1, 128, 479), (2, 2, 959), (3, 2, 959), (3, 3, 1439), (3, 128, 1439), (3, 1, 0),
                              (3, 1, 479), (2, 3, 480)):
@@ -390,7 +390,7 @@ def nothing_lent(book):
     """A turn with no block lent refuses nothing after 5 and 6."""
     image = Image(2, 3, 30)
     book.group("no block lent: nothing refused but 5, on a fresh reader, between blocks and on a complete one",
-               "readings.md, points 2 and 3")
+               "docs/DECISIONS.md, readings 2 and 3")
     start(book)
     for number in (0, 1, 2):
         for asked in (1, 128):
@@ -485,7 +485,7 @@ def block_orders(book):
     complete(book, 17)
     taken(book, image, 2)
     book.group("after the last block: 16, before 14 and every other; 5, 6 and 4 still come first",
-               ORDERS + "; readings.md, point 5")
+               ORDERS + "; docs/DECISIONS.md, reading 5")
     complete(book, 0)
     for b in image.blocks + [with_faults((at,))[0] for at in order] + [bytes(512), block(3, 4, 500, data(1))]:
         refused(book, b, 16)
@@ -546,7 +546,7 @@ def stops(book):
     """A turn that stops in its middle, and goes on."""
     image = Image(3, 12, 44)
     book.group("a turn that stops in its middle keeps what was accepted and leaves the rest of the output; it goes on with "
-               "the right block", OPENSSL + "; readings.md, point 6")
+               "the right block", OPENSSL + "; docs/DECISIONS.md, reading 6")
     stopped = ((spoiled(image.blocks[1], 20, 2), "14 -"), (image.blocks[0], "8 0"), (image.blocks[2], "8 2"),
                (block(1, 3, 13, data(480)), "10 13"), (block(1, 4, 12, data(480)), "9 4"),
                (sealed(head_of(1, 3, 12, 479), filled(data(479))), "12 479"),
@@ -569,7 +569,7 @@ def fill_bytes(book):
     """Fill that is not zero under a right check."""
     book.group("a fill byte other than zero under a right check: 15 at the first, a middle and the last one, output "
                "unchanged",
-               "document 01, refusal 15; readings.md, point 4")
+               "document 01, refusal 15; docs/DECISIONS.md, reading 4")
     for length, places in ((0, (0, 240, 479)), (100, (100, 290, 479)), (479, (479,))):
         start(book)
         for place in places:
@@ -591,7 +591,7 @@ def wrong_keys(book):
     other = key(16, 0x99)
     image = Image(2, 6, 100)
     book.group("a wrong encryption key: not seen in a full block, whose bytes come out wrong, and 15 in a short last one",
-               "OpenSSL; readings.md, point 14")
+               "OpenSSL; docs/DECISIONS.md, reading 14")
     start(book, other, CKEY)
     turn(book, 1, image.blocks[:1], filler(480), [opened(image.blocks[0], other)])
     refused(book, image.blocks[1], 15)
