@@ -175,7 +175,7 @@ fn last_fits(count: u32, len: usize) -> bool
     true
 }
 
-// Once count and release are fixed, others differ.
+// Before count and release are fixed no value differs from them.
 fn differs(fixed: bool, found: u32, wanted: u32) -> bool
     ensures { λ r. ⌜ r ≡ fixed && not (eqb found wanted) ⌝ }
 {

@@ -125,7 +125,7 @@ fn judge_unwrap(key: KeyAnswer, len: usize, room: usize) -> WrapAnswer
     WrapAnswer::WrapDone
 }
 
-// The registers stand in the output from the start, so that no memory beside it holds key data.
+// Nothing is refused from here on, so the registers stand in the output itself.
 fn wrap_into(sbox: &[u8; 256], words: &[u32; 60], rounds: usize, given: &[u8], output: &mut [u8])
     requires { ⌜ (length (now given) ≤ 64) × (length (now given) % 8 ≡ 0) × (length (now given) + 8 ≤ length (now output)) ⌝ }
     ensures { λ _. ⌜ now (output .exit) ≡ over (wrapped (lentEnc (now (sbox .entry)) (now (words .entry)) rounds) (now (given .entry))) (now (output .entry)) ⌝ }
