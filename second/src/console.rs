@@ -28,7 +28,7 @@ use crate::refusal::{number_of, Refusal};
 use crate::wrap;
 use std::io::{self, BufRead, Read, Write};
 
-/// The longest line, without its line feed.
+/// The longest line of the page, without its line feed.
 pub const LONGEST: usize = 65_536;
 
 pub const BAD: &str = "?";
@@ -62,16 +62,31 @@ fn read_line(input: &mut impl BufRead, line: &mut Vec<u8>) -> io::Result<bool> {
     Ok(true)
 }
 
-/// What is held from line to line.
-#[derive(Clone, Default)]
+/// What is held from line to line, and how long a line may be.
+#[derive(Clone)]
 pub struct Console {
+    longest: usize,
     check: RunningCheck,
     reader: Reader,
 }
 
+impl Default for Console {
+    fn default() -> Console {
+        Console::taking(LONGEST)
+    }
+}
+
 impl Console {
+    pub fn taking(longest: usize) -> Console {
+        Console {
+            longest,
+            check: RunningCheck::default(),
+            reader: Reader::default(),
+        }
+    }
+
     pub fn answer(&mut self, line: &[u8]) -> String {
-        if line.len() > LONGEST {
+        if line.len() > self.longest {
             return BAD.to_string();
         }
         let words: Vec<&[u8]> = line.split(|byte| *byte == b' ').collect();

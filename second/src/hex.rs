@@ -4,7 +4,10 @@ pub fn shown(bytes: &[u8]) -> String {
     if bytes.is_empty() {
         return "-".to_string();
     }
-    bytes.iter().map(|byte| format!("{byte:02x}")).collect()
+    let digits = bytes.iter().flat_map(|byte| [byte >> 4, byte & 0x0f]);
+    digits
+        .map(|digit| char::from(b"0123456789abcdef"[usize::from(digit)]))
+        .collect()
 }
 
 pub fn read(word: &[u8]) -> Option<Vec<u8>> {

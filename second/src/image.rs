@@ -134,6 +134,35 @@ pub fn write(
     Ok(())
 }
 
+/// The image of a whole payload; an empty one makes one block.
+pub fn seal_all(
+    encryption_key: &[u8],
+    check_key: &[u8],
+    release: u32,
+    payload: &[u8],
+) -> Result<Vec<u8>, Refusal> {
+    let mut parts: Vec<&[u8]> = payload.chunks(PAYLOAD).collect();
+    if parts.is_empty() {
+        parts.push(&[]);
+    }
+    let count = u32::try_from(parts.len()).map_err(|_| Refusal::CountRange)?;
+    let mut image = Vec::new();
+    for (number, part) in (0..).zip(parts) {
+        let mut block = [0; BLOCK];
+        write(
+            encryption_key,
+            check_key,
+            number,
+            count,
+            release,
+            part,
+            &mut block,
+        )?;
+        image.extend_from_slice(&block);
+    }
+    Ok(image)
+}
+
 /// Where a reader stands. One that no start made, or that a refused start left, accepts nothing.
 #[derive(Clone, Default)]
 pub struct Reader {

@@ -17,8 +17,10 @@ use std::fs;
 use std::io::{self, BufWriter, Read, Write};
 use std::path::Path;
 use std::process::ExitCode;
+use std::str::FromStr;
 
-const USAGE: &str = "usage: second console | second list | second random SEED COUNT [CALL,CALL...] | second listings SEED DIR";
+const USAGE: &str = "usage: second console | second list | second seal KEYS RELEASE \
+                     | second random SEED COUNT [CALL,CALL...] | second listings SEED DIR | second turns SEED DIR";
 
 fn main() -> ExitCode {
     let words: Vec<String> = env::args_os()
@@ -40,9 +42,11 @@ fn run(words: &[&str]) -> Result<(), String> {
     let done = match words {
         ["console"] => console::serve(&mut io::stdin().lock(), &mut io::stdout().lock()),
         ["list"] => list(),
+        ["seal", keys, release] => seal(Path::new(keys), number(release)?)?,
         ["random", seed, count] => random(number(seed)?, number(count)?, None)?,
         ["random", seed, count, calls] => random(number(seed)?, number(count)?, Some(calls))?,
         ["listings", seed, dir] => listings(number(seed)?, Path::new(dir)),
+        ["turns", seed, dir] => turns(number(seed)?, Path::new(dir)),
         _ => return Err(USAGE.to_string()),
     };
     done.map_err(|error| error.to_string())
@@ -52,6 +56,18 @@ fn list() -> io::Result<()> {
     let mut input = Vec::new();
     io::stdin().lock().read_to_end(&mut input)?;
     io::stdout().write_all(listing::list(&input).as_bytes())
+}
+
+/// Seals standard input under two keys of 16 bytes. The outer error is one of reading and sealing, the inner one of the writing.
+fn seal(keys: &Path, release: u32) -> Result<io::Result<()>, String> {
+    let keys = fs::read(keys).map_err(|error| error.to_string())?;
+    let mut payload = Vec::new();
+    let read = io::stdin().lock().read_to_end(&mut payload);
+    read.map_err(|error| error.to_string())?;
+    let (encryption_key, check_key) = keys.split_at(keys.len().min(16));
+    let image = image::seal_all(encryption_key, check_key, release, &payload)
+        .map_err(|refusal| format!("refusal {}", refusal.number()))?;
+    Ok(io::stdout().write_all(&image))
 }
 
 /// The outer error is one of the words, the inner one of the writing.
@@ -75,6 +91,16 @@ fn listings(seed: u64, dir: &Path) -> io::Result<()> {
     Ok(())
 }
 
+/// Writes lines to DIR/lines and their answers to DIR/answers.
+fn turns(seed: u64, dir: &Path) -> io::Result<()> {
+    fs::create_dir_all(dir)?;
+    let mut lines = BufWriter::new(fs::File::create(dir.join("lines"))?);
+    let mut answers = BufWriter::new(fs::File::create(dir.join("answers"))?);
+    random::turns::write(seed, &mut lines, &mut answers)?;
+    lines.flush()?;
+    answers.flush()
+}
+
 fn print_lines(lines: random::Lines, count: u64) -> io::Result<()> {
     let mut output = BufWriter::new(io::stdout().lock());
     for (_, line) in (0..count).zip(lines) {
@@ -84,6 +110,6 @@ fn print_lines(lines: random::Lines, count: u64) -> io::Result<()> {
     output.flush()
 }
 
-fn number(word: &str) -> Result<u64, String> {
+fn number<T: FromStr>(word: &str) -> Result<T, String> {
     word.parse().map_err(|_| format!("not a number: {word:?}"))
 }

@@ -5,6 +5,7 @@ pub mod listings;
 mod plan;
 mod rng;
 mod spoil;
+pub mod turns;
 mod wraps;
 
 use crate::console::{Console, BAD};

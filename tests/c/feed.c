@@ -1,32 +1,9 @@
 // The running check, fed on the spot in many cuttings, equals the whole check: linked from C, on messages of up to 3 MiB.
-#include <stddef.h>
-#include <stdint.h>
 #include <stdio.h>
 #include <stdlib.h>
 #include <string.h>
 
-typedef struct {
-    uint32_t words[60];
-    size_t rounds;
-    uint8_t chain[16];
-    uint8_t held[16];
-    size_t count;
-} Record;
-
-typedef struct {
-    uint32_t number;
-    uint8_t check[16];
-} CheckAnswer;
-
-typedef struct {
-    uint32_t number;
-    Record record;
-} StartAnswer;
-
-CheckAnswer dock_check(const uint8_t *key, size_t key_length, const uint8_t *message, size_t length);
-StartAnswer dock_check_start(const uint8_t *key, size_t key_length);
-CheckAnswer dock_check_close(Record record);
-void cmac_feed(Record *record, const uint8_t *part, size_t length);
+#include "../../include/dock.h"
 
 static uint64_t seed = 88172645463325252ULL;
 
@@ -49,21 +26,21 @@ static void expect(int holds, const char *what, size_t length) {
 
 // Feeds the message in parts of up to `most` bytes, an empty one among them now and then, and closes, twice and on the way.
 static void run(const uint8_t *key, size_t key_length, const uint8_t *message, size_t length, size_t most) {
-    CheckAnswer whole = dock_check(key, key_length, message, length);
-    StartAnswer started = dock_check_start(key, key_length);
-    Record record = started.record;
+    dock_check_answer whole = dock_check(key, key_length, message, length);
+    dock_start_answer started = dock_check_start(key, key_length);
+    dock_record record = started.record;
     expect(whole.number == 0 && started.number == 0, "a key of a right length is refused", length);
     size_t at = 0;
     while (at < length) {
         size_t part = drawn() % (most + 1);
         if (part > length - at) part = length - at;
-        Record before = record;
+        dock_record before = record;
         cmac_feed(&record, message + at, part);
         if (part == 0) expect(memcmp(before.chain, record.chain, 16) == 0 && before.count == record.count, "an empty part changes the record", length);
         at += part;
     }
-    CheckAnswer once = dock_check_close(record);
-    CheckAnswer twice = dock_check_close(record);
+    dock_check_answer once = dock_check_close(record);
+    dock_check_answer twice = dock_check_close(record);
     expect(memcmp(once.check, whole.check, 16) == 0, "running and whole differ", length);
     expect(memcmp(twice.check, whole.check, 16) == 0, "closing again differs", length);
     cmac_feed(&record, message, length);

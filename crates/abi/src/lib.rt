@@ -1,10 +1,53 @@
 // What C links: the calls on slices and numbers, with structs by value and the refusals' numbers in place of enums.
+mod numbers;
+mod states;
+
+use crate::numbers::completion_number;
+use crate::numbers::how_stopped;
+use crate::numbers::key_number;
+use crate::numbers::mode_number;
+use crate::numbers::wrap_number;
+use crate::numbers::write_number;
+use crate::states::reader_of;
+use crate::states::state_of;
+use cipher::Ciphered;
 use cmac::Record;
-use schedule::KeyAnswer;
+use image::Turn;
+use modes::Mode;
+use modes::Way;
+use schedule::KeySchedule;
 ghost use mathlib.Core.Path.{_≡_};
-ghost use Rattle.schedule.specs.Schedule.{keyNumber};
-ghost use Rattle.cmac.specs.Running.{checkOf, startOf, closeOf};
-ghost use Rattle.abi.specs.Abi.{checkAnswer, startAnswer, closeAnswer};
+ghost use Rattle.field.specs.Field.{_•_};
+ghost use Rattle.sbox.specs.Sbox.{sBox};
+ghost use Rattle.schedule.specs.Schedule.{scheduleOf};
+ghost use Rattle.cipher.specs.Cipher.{encryptUnder, decryptUnder};
+ghost use Rattle.modes.specs.declared.Mode.the-variants.{Ecb, Cbc, Cfb, Ofb};
+ghost use Rattle.modes.specs.declared.Way.the-variants.{Encrypt, Decrypt};
+ghost use Rattle.modes.specs.Modes.{modeNumber, modeAnswer};
+ghost use Rattle.cmac.specs.Running.{checkOf, startOf, fedWith, closeOf};
+ghost use Rattle.image.specs.Calls as image;
+ghost use Rattle.wrap.specs.Calls.{wrapNumber, wrapAnswer, wrapOutput, unwrapAnswer, unwrapOutput};
+ghost use Rattle.abi.specs.Abi.{scheduleAnswer, blockAnswer, afterMode, checkAnswer, startAnswer, closeAnswer, readerOf, readStartAnswer, turnAnswer};
+
+// Sixteen bytes by value: C passes no array so.
+#[repr(C)]
+pub struct Block {
+    pub bytes: [u8; 16],
+}
+
+// In the answers a number other than 0 is a refusal's; beside that of a refused key there are zeros.
+#[repr(C)]
+pub struct ScheduleAnswer {
+    pub number: u32,
+    pub words: [u32; 60],
+    pub rounds: usize,
+}
+
+#[repr(C)]
+pub struct BlockAnswer {
+    pub number: u32,
+    pub block: [u8; 16],
+}
 
 #[repr(C)]
 pub struct CheckAnswer {
@@ -16,6 +59,142 @@ pub struct CheckAnswer {
 pub struct StartAnswer {
     pub number: u32,
     pub record: Record,
+}
+
+// A reader, flat: its two schedules, and how far it has come. Of `fixed`, 0 is no and every other value is yes; the calls give
+// back 0 or 1.
+#[repr(C)]
+pub struct ReaderState {
+    pub encwords: [u32; 60],
+    pub encrounds: usize,
+    pub chkwords: [u32; 60],
+    pub chkrounds: usize,
+    pub next: u32,
+    pub fixed: u32,
+    pub count: u32,
+    pub release: u32,
+}
+
+#[repr(C)]
+pub struct ReadStartAnswer {
+    pub number: u32,
+    pub reader: ReaderState,
+}
+
+// What a turn did. `number` is that of a refusal of the whole turn; a block that stopped it has its place and reason, and the
+// value that the reason holds. There are zeros where there is none.
+#[repr(C)]
+pub struct TurnAnswer {
+    pub number: u32,
+    pub reason: u32,
+    pub value: u32,
+    pub place: usize,
+    pub accepted: usize,
+    pub bytes: usize,
+    pub reader: ReaderState,
+}
+
+#[no_mangle]
+pub extern "C" fn dock_product(a: u8, b: u8) -> u8
+    ensures { λ r. ⌜ r ≡ a • b ⌝ }
+{
+    field::product(a, b)
+}
+
+#[no_mangle]
+pub extern "C" fn dock_schedule(key: &[u8]) -> ScheduleAnswer
+    ensures { λ r. ⌜ r ≡ scheduleAnswer (scheduleOf sBox (now (key .entry))) ⌝ }
+{
+    let made = KeySchedule::new(key);
+    let answer = made.answer;
+    let schedule = made.schedule;
+    let words = schedule.words;
+    ScheduleAnswer {
+        number: key_number(answer),
+        words,
+        rounds: schedule.rounds,
+    }
+}
+
+#[no_mangle]
+pub extern "C" fn dock_encrypt(key: &[u8], block: Block) -> BlockAnswer
+    ensures { λ r. ⌜ r ≡ blockAnswer (encryptUnder (now (key .entry)) (block .bytes)) ⌝ }
+{
+    let bytes = block.bytes;
+    block_answer(cipher::encrypt(key, bytes))
+}
+
+#[no_mangle]
+pub extern "C" fn dock_decrypt(key: &[u8], block: Block) -> BlockAnswer
+    ensures { λ r. ⌜ r ≡ blockAnswer (decryptUnder (now (key .entry)) (block .bytes)) ⌝ }
+{
+    let bytes = block.bytes;
+    block_answer(cipher::decrypt(key, bytes))
+}
+
+// The modes: the IV is empty in ECB and 16 bytes in the others.
+#[no_mangle]
+pub extern "C" fn dock_ecb_encrypt(key: &[u8], iv: &[u8], input: &[u8], output: &mut [u8]) -> u32
+    ensures answer { λ r. ⌜ r ≡ modeNumber (modeAnswer Ecb (now (key .entry)) (now (iv .entry)) (now (input .entry)) (now (output .entry))) ⌝ }
+    ensures written { λ _. ⌜ now (output .exit) ≡ afterMode Ecb Encrypt (now (key .entry)) (now (iv .entry)) (now (input .entry)) (now (output .entry)) ⌝ }
+{
+    moded(Mode::Ecb, Way::Encrypt, key, iv, input, output)
+}
+
+#[no_mangle]
+pub extern "C" fn dock_ecb_decrypt(key: &[u8], iv: &[u8], input: &[u8], output: &mut [u8]) -> u32
+    ensures answer { λ r. ⌜ r ≡ modeNumber (modeAnswer Ecb (now (key .entry)) (now (iv .entry)) (now (input .entry)) (now (output .entry))) ⌝ }
+    ensures written { λ _. ⌜ now (output .exit) ≡ afterMode Ecb Decrypt (now (key .entry)) (now (iv .entry)) (now (input .entry)) (now (output .entry)) ⌝ }
+{
+    moded(Mode::Ecb, Way::Decrypt, key, iv, input, output)
+}
+
+#[no_mangle]
+pub extern "C" fn dock_cbc_encrypt(key: &[u8], iv: &[u8], input: &[u8], output: &mut [u8]) -> u32
+    ensures answer { λ r. ⌜ r ≡ modeNumber (modeAnswer Cbc (now (key .entry)) (now (iv .entry)) (now (input .entry)) (now (output .entry))) ⌝ }
+    ensures written { λ _. ⌜ now (output .exit) ≡ afterMode Cbc Encrypt (now (key .entry)) (now (iv .entry)) (now (input .entry)) (now (output .entry)) ⌝ }
+{
+    moded(Mode::Cbc, Way::Encrypt, key, iv, input, output)
+}
+
+#[no_mangle]
+pub extern "C" fn dock_cbc_decrypt(key: &[u8], iv: &[u8], input: &[u8], output: &mut [u8]) -> u32
+    ensures answer { λ r. ⌜ r ≡ modeNumber (modeAnswer Cbc (now (key .entry)) (now (iv .entry)) (now (input .entry)) (now (output .entry))) ⌝ }
+    ensures written { λ _. ⌜ now (output .exit) ≡ afterMode Cbc Decrypt (now (key .entry)) (now (iv .entry)) (now (input .entry)) (now (output .entry)) ⌝ }
+{
+    moded(Mode::Cbc, Way::Decrypt, key, iv, input, output)
+}
+
+#[no_mangle]
+pub extern "C" fn dock_cfb_encrypt(key: &[u8], iv: &[u8], input: &[u8], output: &mut [u8]) -> u32
+    ensures answer { λ r. ⌜ r ≡ modeNumber (modeAnswer Cfb (now (key .entry)) (now (iv .entry)) (now (input .entry)) (now (output .entry))) ⌝ }
+    ensures written { λ _. ⌜ now (output .exit) ≡ afterMode Cfb Encrypt (now (key .entry)) (now (iv .entry)) (now (input .entry)) (now (output .entry)) ⌝ }
+{
+    moded(Mode::Cfb, Way::Encrypt, key, iv, input, output)
+}
+
+#[no_mangle]
+pub extern "C" fn dock_cfb_decrypt(key: &[u8], iv: &[u8], input: &[u8], output: &mut [u8]) -> u32
+    ensures answer { λ r. ⌜ r ≡ modeNumber (modeAnswer Cfb (now (key .entry)) (now (iv .entry)) (now (input .entry)) (now (output .entry))) ⌝ }
+    ensures written { λ _. ⌜ now (output .exit) ≡ afterMode Cfb Decrypt (now (key .entry)) (now (iv .entry)) (now (input .entry)) (now (output .entry)) ⌝ }
+{
+    moded(Mode::Cfb, Way::Decrypt, key, iv, input, output)
+}
+
+#[no_mangle]
+pub extern "C" fn dock_ofb_encrypt(key: &[u8], iv: &[u8], input: &[u8], output: &mut [u8]) -> u32
+    ensures answer { λ r. ⌜ r ≡ modeNumber (modeAnswer Ofb (now (key .entry)) (now (iv .entry)) (now (input .entry)) (now (output .entry))) ⌝ }
+    ensures written { λ _. ⌜ now (output .exit) ≡ afterMode Ofb Encrypt (now (key .entry)) (now (iv .entry)) (now (input .entry)) (now (output .entry)) ⌝ }
+{
+    moded(Mode::Ofb, Way::Encrypt, key, iv, input, output)
+}
+
+#[no_mangle]
+pub extern "C" fn dock_ofb_decrypt(key: &[u8], iv: &[u8], input: &[u8], output: &mut [u8]) -> u32
+    ensures answer { λ r. ⌜ r ≡ modeNumber (modeAnswer Ofb (now (key .entry)) (now (iv .entry)) (now (input .entry)) (now (output .entry))) ⌝ }
+    ensures written { λ _. ⌜ now (output .exit) ≡ afterMode Ofb Decrypt (now (key .entry)) (now (iv .entry)) (now (input .entry)) (now (output .entry)) ⌝ }
+{
+    moded(Mode::Ofb, Way::Decrypt, key, iv, input, output)
 }
 
 #[no_mangle]
@@ -44,7 +223,14 @@ pub extern "C" fn dock_check_start(key: &[u8]) -> StartAnswer
     }
 }
 
-// The record is fed by `cmac_feed`, which stands with the check itself.
+// The record by value; `cmac_feed`, which stands with the check itself, feeds one on the spot.
+#[no_mangle]
+pub extern "C" fn dock_check_feed(record: Record, part: &[u8]) -> Record
+    ensures { λ r. ⌜ r ≡ fedWith «record» (now (part .entry)) ⌝ }
+{
+    cmac::fed_with(record, part)
+}
+
 #[no_mangle]
 pub extern "C" fn dock_check_close(record: Record) -> CheckAnswer
     ensures { λ r. ⌜ r ≡ closeAnswer (closeOf «record») ⌝ }
@@ -53,11 +239,108 @@ pub extern "C" fn dock_check_close(record: Record) -> CheckAnswer
     CheckAnswer { number: 0, check }
 }
 
-fn key_number(answer: KeyAnswer) -> u32
-    ensures { λ r. ⌜ r ≡ keyNumber answer ⌝ }
+#[no_mangle]
+pub extern "C" fn dock_write(
+    ekey: &[u8],
+    ckey: &[u8],
+    number: u32,
+    count: u32,
+    release: u32,
+    payload: &[u8],
+    output: &mut [u8],
+) -> u32
+    ensures answer { λ r. ⌜ r ≡ image.writeNumber (image.writeAnswer (now (ekey .entry)) (now (ckey .entry)) number count (now (payload .entry)) (now (output .entry))) ⌝ }
+    ensures written { λ _. ⌜ now (output .exit) ≡ image.writeOutput (image.writeAnswer (now (ekey .entry)) (now (ckey .entry)) number count (now (payload .entry)) (now (output .entry))) (now (ekey .entry)) (now (ckey .entry)) number count release (now (payload .entry)) (now (output .entry)) ⌝ }
 {
-    match answer {
-        KeyAnswer::Taken => 0,
-        KeyAnswer::KeyLength => 1,
+    let answer = image::write(ekey, ckey, number, count, release, payload, output);
+    write_number(answer)
+}
+
+#[no_mangle]
+pub extern "C" fn dock_read_start(ekey: &[u8], ckey: &[u8]) -> ReadStartAnswer
+    ensures { λ r. ⌜ r ≡ readStartAnswer (image.startOf (now (ekey .entry)) (now (ckey .entry))) ⌝ }
+{
+    let s = image::read_start(ekey, ckey);
+    let answer = s.answer;
+    let reader = s.reader;
+    ReadStartAnswer {
+        number: key_number(answer),
+        reader: state_of(reader),
+    }
+}
+
+#[no_mangle]
+pub extern "C" fn dock_read_turn(
+    reader: ReaderState,
+    blocks: &[u8],
+    asked: usize,
+    output: &mut [u8],
+) -> TurnAnswer
+    ensures answer { λ r. ⌜ r ≡ turnAnswer (image.turnOf (readerOf reader) (now (blocks .entry)) asked (now (output .entry)) .0) ⌝ }
+    ensures written { λ _. ⌜ now (output .exit) ≡ image.turnOf (readerOf reader) (now (blocks .entry)) asked (now (output .entry)) .1 ⌝ }
+{
+    let t = image::read_turn(reader_of(reader), blocks, asked, output);
+    turn_answer(t)
+}
+
+#[no_mangle]
+pub extern "C" fn dock_read_complete(reader: ReaderState) -> u32
+    ensures { λ r. ⌜ r ≡ image.completionNumber (image.completionOf (readerOf reader)) ⌝ }
+{
+    let answer = image::read_complete(reader_of(reader));
+    completion_number(answer)
+}
+
+#[no_mangle]
+pub extern "C" fn dock_wrap(key: &[u8], data: &[u8], output: &mut [u8]) -> u32
+    ensures answer { λ r. ⌜ r ≡ wrapNumber (wrapAnswer (now (key .entry)) (now («data» .entry)) (now (output .entry))) ⌝ }
+    ensures written { λ _. ⌜ now (output .exit) ≡ wrapOutput (wrapAnswer (now (key .entry)) (now («data» .entry)) (now (output .entry))) (now (key .entry)) (now («data» .entry)) (now (output .entry)) ⌝ }
+{
+    let answer = wrap::wrap(key, data, output);
+    wrap_number(answer)
+}
+
+#[no_mangle]
+pub extern "C" fn dock_unwrap(key: &[u8], data: &[u8], output: &mut [u8]) -> u32
+    ensures answer { λ r. ⌜ r ≡ wrapNumber (unwrapAnswer (now (key .entry)) (now («data» .entry)) (now (output .entry))) ⌝ }
+    ensures written { λ _. ⌜ now (output .exit) ≡ unwrapOutput (unwrapAnswer (now (key .entry)) (now («data» .entry)) (now (output .entry))) (now (key .entry)) (now («data» .entry)) (now (output .entry)) ⌝ }
+{
+    let answer = wrap::unwrap(key, data, output);
+    wrap_number(answer)
+}
+
+fn block_answer(c: Ciphered) -> BlockAnswer
+    ensures { λ r. ⌜ r ≡ blockAnswer c ⌝ }
+{
+    let answer = c.answer;
+    let block = c.block;
+    BlockAnswer {
+        number: key_number(answer),
+        block,
+    }
+}
+
+fn moded(mode: Mode, way: Way, key: &[u8], iv: &[u8], input: &[u8], output: &mut [u8]) -> u32
+    ensures answer { λ r. ⌜ r ≡ modeNumber (modeAnswer mode (now (key .entry)) (now (iv .entry)) (now (input .entry)) (now (output .entry))) ⌝ }
+    ensures written { λ _. ⌜ now (output .exit) ≡ afterMode mode way (now (key .entry)) (now (iv .entry)) (now (input .entry)) (now (output .entry)) ⌝ }
+{
+    let answer = modes::apply(mode, way, key, iv, input, output);
+    mode_number(answer)
+}
+
+fn turn_answer(t: Turn) -> TurnAnswer
+    ensures { λ r. ⌜ r ≡ turnAnswer t ⌝ }
+{
+    let stop = t.stop;
+    let reader = t.reader;
+    let told = how_stopped(stop);
+    TurnAnswer {
+        number: told.number,
+        reason: told.reason,
+        value: told.value,
+        place: told.place,
+        accepted: t.accepted,
+        bytes: t.bytes,
+        reader: state_of(reader),
     }
 }

@@ -31,9 +31,6 @@ use Rattle.cmac.proofs.check_with.Reads as check-with
 use Rattle.cmac.proofs.Run.new.Reads as run-new
 use Rattle.cmac.proofs.Run.fed.Reads as run-fed
 use Rattle.cmac.proofs.Run.closed.Reads as run-closed
-use Rattle.abi.proofs.dock_check.Reads as dock-check
-use Rattle.abi.proofs.dock_check_start.Reads as dock-check-start
-use Rattle.abi.proofs.dock_check_close.Reads as dock-check-close
 
 -- ---- demand 1: every call asks nothing of its caller, and any two outcomes that its contract allows agree
 
@@ -188,23 +185,3 @@ one-piece-tells κs a r s p κs′ a′ r′ s′ q size e k b b′ l i same dif
     let u : r .check ≡ cmac c m = ap (λ (x : Checked). x .check) p in
     let v : r′ .check ≡ cmac c m′ = ap (λ (x : Checked). x .check) q ∙ ap (λ (x : List ℕ). cmac (aesOf x) m′) (sym k) in
     differ (one-piece c (key-lawful (now (a .0)) (size-taken (now (a .0)) size e)) i m m′ b b′ l same (sym u ∙ h ∙ v))
-
--- ---- demand 1 for what C links
-
-pub dock-check-asks-nothing : (κs : _) (a : _) → dock-check.Asked κs a
-dock-check-asks-nothing κs a = tt
-
-pub dock-check-determined : (κs : _) (a : _) (r r′ : _) (s s′ : _) → dock-check.Post κs a r s → dock-check.Post κs a r′ s′ → r ≡ r′
-dock-check-determined κs a r r′ s s′ p q = p ∙ sym q
-
-pub dock-check-start-asks-nothing : (κs : _) (a : _) → dock-check-start.Asked κs a
-dock-check-start-asks-nothing κs a = tt
-
-pub dock-check-start-determined : (κs : _) (a : _) (r r′ : _) (s s′ : _) → dock-check-start.Post κs a r s → dock-check-start.Post κs a r′ s′ → r ≡ r′
-dock-check-start-determined κs a r r′ s s′ p q = p ∙ sym q
-
-pub dock-check-close-asks-nothing : (κs : _) (a : _) → dock-check-close.Asked κs a
-dock-check-close-asks-nothing κs a = tt
-
-pub dock-check-close-determined : (κs : _) (a : _) (r r′ : _) (s s′ : _) → dock-check-close.Post κs a r s → dock-check-close.Post κs a r′ s′ → r ≡ r′
-dock-check-close-determined κs a r r′ s s′ p q = p ∙ sym q

@@ -18,3 +18,4 @@ pub mod WrapTerms
 pub mod WrapLaws
 pub mod Wrap
 pub mod WrapDemands
+pub mod Reach

@@ -65,6 +65,21 @@ fn what_is_written_is_read() {
 }
 
 #[test]
+fn a_whole_payload_is_sealed_and_read() {
+    for (length, blocks) in [(0, 1), (1, 1), (480, 1), (481, 2), (960, 2), (1000, 3)] {
+        let payload: Vec<u8> = (0..length).map(|at| at as u8).collect();
+        let image = seal_all(&ENCRYPTION, &CHECK, 7, &payload).unwrap();
+        assert_eq!(image.len(), blocks * BLOCK);
+        let mut output = vec![0; blocks * PAYLOAD];
+        let mut reader = reader();
+        let turn = reader.turn(128, &image, &mut output).unwrap();
+        assert_eq!((turn.sum, turn.stop), (length, None));
+        assert_eq!(output[..length], payload);
+        assert_eq!(reader.complete(), Ok(()));
+    }
+}
+
+#[test]
 fn writer_refuses_in_order() {
     let short_key = write(&[0; 15], &CHECK, 9, 0, 0, &[0; 999], &mut []);
     assert_eq!(short_key, Err(Refusal::KeyLength));

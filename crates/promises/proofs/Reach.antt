@@ -1,0 +1,303 @@
+-- Demand 1 for what C links: each exported call asks nothing of its caller, any two outcomes that its contract allows agree, and a call
+-- that answers another number than 0 leaves the output as it was. Then that a reader's state goes to C and comes back. Assumes nothing.
+use mathlib.Core.Path.{_≡_, refl, sym, ap, _∙_}
+use mathlib.Core.Bool.{Bool, true, false, not}
+use mathlib.Core.List.{List}
+use Prim.Native.Nat.{ℕ}
+use denote.Ref.{now}
+use lib.Dec.{eqb}
+use Rattle.modes.specs.Modes.{modeNumber, modeAnswer}
+use Rattle.modes.specs.declared.Mode.{Mode}
+use Rattle.modes.specs.declared.Mode.the-variants.{Ecb, Cbc, Cfb, Ofb}
+use Rattle.modes.specs.declared.Way.{Way}
+use Rattle.modes.specs.declared.Way.the-variants.{Encrypt, Decrypt}
+use Rattle.modes.proofs.Answers.{kept}
+use Rattle.image.specs.Calls.{startOf, turnOf}
+use Rattle.image.specs.declared.Reader.{Reader}
+use Rattle.image.specs.declared.Stop.{Stop}
+use Rattle.image.specs.declared.Stop.the-variants.{End, Asked, Lent, Room, At}
+use Rattle.image.specs.declared.Turn.{Turn}
+use Rattle.wrap.specs.Calls.{wrapAnswer, unwrapAnswer}
+use Rattle.abi.specs.Abi.{afterMode, flagOf, readerOf, stateOf, toldOf, turnAnswer}
+use Rattle.abi.specs.declared.ReaderState.{ReaderState}
+use Rattle.abi.specs.declared.ReadStartAnswer.{ReadStartAnswer}
+use Rattle.abi.specs.declared.TurnAnswer.{TurnAnswer}
+use Rattle.promises.proofs.ImageTerms.{Whole}
+use Rattle.promises.proofs.Image.{write-refusal-keeps, turn-refusal-keeps}
+use Rattle.promises.proofs.WrapLaws.{wrap-keeps, unwrap-keeps}
+use Rattle.abi.proofs.dock_product.Reads as dock-product
+use Rattle.abi.proofs.dock_schedule.Reads as dock-schedule
+use Rattle.abi.proofs.dock_encrypt.Reads as dock-encrypt
+use Rattle.abi.proofs.dock_decrypt.Reads as dock-decrypt
+use Rattle.abi.proofs.dock_ecb_encrypt.Reads as dock-ecb-encrypt
+use Rattle.abi.proofs.dock_ecb_decrypt.Reads as dock-ecb-decrypt
+use Rattle.abi.proofs.dock_cbc_encrypt.Reads as dock-cbc-encrypt
+use Rattle.abi.proofs.dock_cbc_decrypt.Reads as dock-cbc-decrypt
+use Rattle.abi.proofs.dock_cfb_encrypt.Reads as dock-cfb-encrypt
+use Rattle.abi.proofs.dock_cfb_decrypt.Reads as dock-cfb-decrypt
+use Rattle.abi.proofs.dock_ofb_encrypt.Reads as dock-ofb-encrypt
+use Rattle.abi.proofs.dock_ofb_decrypt.Reads as dock-ofb-decrypt
+use Rattle.abi.proofs.dock_check.Reads as dock-check
+use Rattle.abi.proofs.dock_check_start.Reads as dock-check-start
+use Rattle.abi.proofs.dock_check_feed.Reads as dock-check-feed
+use Rattle.abi.proofs.dock_check_close.Reads as dock-check-close
+use Rattle.abi.proofs.dock_write.Reads as dock-write
+use Rattle.abi.proofs.dock_read_start.Reads as dock-read-start
+use Rattle.abi.proofs.dock_read_turn.Reads as dock-read-turn
+use Rattle.abi.proofs.dock_read_complete.Reads as dock-read-complete
+use Rattle.abi.proofs.dock_wrap.Reads as dock-wrap
+use Rattle.abi.proofs.dock_unwrap.Reads as dock-unwrap
+
+-- ---- the field, the key schedule and one block
+
+pub dock-product-asks-nothing : (κs : _) (a : _) → dock-product.Asked κs a
+dock-product-asks-nothing κs a = tt
+
+pub dock-product-determined : (κs : _) (a : _) (r r′ : _) (s s′ : _) → dock-product.Post κs a r s → dock-product.Post κs a r′ s′ → r ≡ r′
+dock-product-determined κs a r r′ s s′ p q = p ∙ sym q
+
+pub dock-schedule-asks-nothing : (κs : _) (a : _) → dock-schedule.Asked κs a
+dock-schedule-asks-nothing κs a = tt
+
+pub dock-schedule-determined : (κs : _) (a : _) (r r′ : _) (s s′ : _) → dock-schedule.Post κs a r s → dock-schedule.Post κs a r′ s′ → r ≡ r′
+dock-schedule-determined κs a r r′ s s′ p q = p ∙ sym q
+
+pub dock-encrypt-asks-nothing : (κs : _) (a : _) → dock-encrypt.Asked κs a
+dock-encrypt-asks-nothing κs a = tt
+
+pub dock-encrypt-determined : (κs : _) (a : _) (r r′ : _) (s s′ : _) → dock-encrypt.Post κs a r s → dock-encrypt.Post κs a r′ s′ → r ≡ r′
+dock-encrypt-determined κs a r r′ s s′ p q = p ∙ sym q
+
+pub dock-decrypt-asks-nothing : (κs : _) (a : _) → dock-decrypt.Asked κs a
+dock-decrypt-asks-nothing κs a = tt
+
+pub dock-decrypt-determined : (κs : _) (a : _) (r r′ : _) (s s′ : _) → dock-decrypt.Post κs a r s → dock-decrypt.Post κs a r′ s′ → r ≡ r′
+dock-decrypt-determined κs a r r′ s s′ p q = p ∙ sym q
+
+-- ---- the modes
+
+mode-keeps : (m : Mode) (w : Way) (key iv inp out : List ℕ) {r : ℕ} → r ≡ modeNumber (modeAnswer m key iv inp out) → (r ≡ 0 → ⊥) → afterMode m w key iv inp out ≡ out
+unfolding afterMode
+mode-keeps m w key iv inp out e h = kept (modeAnswer m key iv inp out) m w key iv inp out (λ z. h (e ∙ z))
+
+pub dock-ecb-encrypt-asks-nothing : (κs : _) (a : _) → dock-ecb-encrypt.Asked κs a
+dock-ecb-encrypt-asks-nothing κs a = tt
+
+pub dock-ecb-encrypt-determined : (κs : _) (a : _) (r r′ : _) (s s′ : _) → dock-ecb-encrypt.Post κs a r s → dock-ecb-encrypt.Post κs a r′ s′
+    → (r ≡ r′) × (now (s .1 .1 .1 .0) ≡ now (s′ .1 .1 .1 .0))
+dock-ecb-encrypt-determined κs a r r′ s s′ p q = (p .0 ∙ sym (q .0), p .1 ∙ sym (q .1))
+
+pub dock-ecb-encrypt-refused-keeps : (κs : _) (a : _) (r : _) (s : _) → dock-ecb-encrypt.Post κs a r s → (r ≡ 0 → ⊥) → now (s .1 .1 .1 .0) ≡ now (a .1 .1 .1 .0)
+dock-ecb-encrypt-refused-keeps κs a r s p h = p .1 ∙ mode-keeps Ecb Encrypt (now (a .0)) (now (a .1 .0)) (now (a .1 .1 .0)) (now (a .1 .1 .1 .0)) (p .0) h
+
+pub dock-ecb-decrypt-asks-nothing : (κs : _) (a : _) → dock-ecb-decrypt.Asked κs a
+dock-ecb-decrypt-asks-nothing κs a = tt
+
+pub dock-ecb-decrypt-determined : (κs : _) (a : _) (r r′ : _) (s s′ : _) → dock-ecb-decrypt.Post κs a r s → dock-ecb-decrypt.Post κs a r′ s′
+    → (r ≡ r′) × (now (s .1 .1 .1 .0) ≡ now (s′ .1 .1 .1 .0))
+dock-ecb-decrypt-determined κs a r r′ s s′ p q = (p .0 ∙ sym (q .0), p .1 ∙ sym (q .1))
+
+pub dock-ecb-decrypt-refused-keeps : (κs : _) (a : _) (r : _) (s : _) → dock-ecb-decrypt.Post κs a r s → (r ≡ 0 → ⊥) → now (s .1 .1 .1 .0) ≡ now (a .1 .1 .1 .0)
+dock-ecb-decrypt-refused-keeps κs a r s p h = p .1 ∙ mode-keeps Ecb Decrypt (now (a .0)) (now (a .1 .0)) (now (a .1 .1 .0)) (now (a .1 .1 .1 .0)) (p .0) h
+
+pub dock-cbc-encrypt-asks-nothing : (κs : _) (a : _) → dock-cbc-encrypt.Asked κs a
+dock-cbc-encrypt-asks-nothing κs a = tt
+
+pub dock-cbc-encrypt-determined : (κs : _) (a : _) (r r′ : _) (s s′ : _) → dock-cbc-encrypt.Post κs a r s → dock-cbc-encrypt.Post κs a r′ s′
+    → (r ≡ r′) × (now (s .1 .1 .1 .0) ≡ now (s′ .1 .1 .1 .0))
+dock-cbc-encrypt-determined κs a r r′ s s′ p q = (p .0 ∙ sym (q .0), p .1 ∙ sym (q .1))
+
+pub dock-cbc-encrypt-refused-keeps : (κs : _) (a : _) (r : _) (s : _) → dock-cbc-encrypt.Post κs a r s → (r ≡ 0 → ⊥) → now (s .1 .1 .1 .0) ≡ now (a .1 .1 .1 .0)
+dock-cbc-encrypt-refused-keeps κs a r s p h = p .1 ∙ mode-keeps Cbc Encrypt (now (a .0)) (now (a .1 .0)) (now (a .1 .1 .0)) (now (a .1 .1 .1 .0)) (p .0) h
+
+pub dock-cbc-decrypt-asks-nothing : (κs : _) (a : _) → dock-cbc-decrypt.Asked κs a
+dock-cbc-decrypt-asks-nothing κs a = tt
+
+pub dock-cbc-decrypt-determined : (κs : _) (a : _) (r r′ : _) (s s′ : _) → dock-cbc-decrypt.Post κs a r s → dock-cbc-decrypt.Post κs a r′ s′
+    → (r ≡ r′) × (now (s .1 .1 .1 .0) ≡ now (s′ .1 .1 .1 .0))
+dock-cbc-decrypt-determined κs a r r′ s s′ p q = (p .0 ∙ sym (q .0), p .1 ∙ sym (q .1))
+
+pub dock-cbc-decrypt-refused-keeps : (κs : _) (a : _) (r : _) (s : _) → dock-cbc-decrypt.Post κs a r s → (r ≡ 0 → ⊥) → now (s .1 .1 .1 .0) ≡ now (a .1 .1 .1 .0)
+dock-cbc-decrypt-refused-keeps κs a r s p h = p .1 ∙ mode-keeps Cbc Decrypt (now (a .0)) (now (a .1 .0)) (now (a .1 .1 .0)) (now (a .1 .1 .1 .0)) (p .0) h
+
+pub dock-cfb-encrypt-asks-nothing : (κs : _) (a : _) → dock-cfb-encrypt.Asked κs a
+dock-cfb-encrypt-asks-nothing κs a = tt
+
+pub dock-cfb-encrypt-determined : (κs : _) (a : _) (r r′ : _) (s s′ : _) → dock-cfb-encrypt.Post κs a r s → dock-cfb-encrypt.Post κs a r′ s′
+    → (r ≡ r′) × (now (s .1 .1 .1 .0) ≡ now (s′ .1 .1 .1 .0))
+dock-cfb-encrypt-determined κs a r r′ s s′ p q = (p .0 ∙ sym (q .0), p .1 ∙ sym (q .1))
+
+pub dock-cfb-encrypt-refused-keeps : (κs : _) (a : _) (r : _) (s : _) → dock-cfb-encrypt.Post κs a r s → (r ≡ 0 → ⊥) → now (s .1 .1 .1 .0) ≡ now (a .1 .1 .1 .0)
+dock-cfb-encrypt-refused-keeps κs a r s p h = p .1 ∙ mode-keeps Cfb Encrypt (now (a .0)) (now (a .1 .0)) (now (a .1 .1 .0)) (now (a .1 .1 .1 .0)) (p .0) h
+
+pub dock-cfb-decrypt-asks-nothing : (κs : _) (a : _) → dock-cfb-decrypt.Asked κs a
+dock-cfb-decrypt-asks-nothing κs a = tt
+
+pub dock-cfb-decrypt-determined : (κs : _) (a : _) (r r′ : _) (s s′ : _) → dock-cfb-decrypt.Post κs a r s → dock-cfb-decrypt.Post κs a r′ s′
+    → (r ≡ r′) × (now (s .1 .1 .1 .0) ≡ now (s′ .1 .1 .1 .0))
+dock-cfb-decrypt-determined κs a r r′ s s′ p q = (p .0 ∙ sym (q .0), p .1 ∙ sym (q .1))
+
+pub dock-cfb-decrypt-refused-keeps : (κs : _) (a : _) (r : _) (s : _) → dock-cfb-decrypt.Post κs a r s → (r ≡ 0 → ⊥) → now (s .1 .1 .1 .0) ≡ now (a .1 .1 .1 .0)
+dock-cfb-decrypt-refused-keeps κs a r s p h = p .1 ∙ mode-keeps Cfb Decrypt (now (a .0)) (now (a .1 .0)) (now (a .1 .1 .0)) (now (a .1 .1 .1 .0)) (p .0) h
+
+pub dock-ofb-encrypt-asks-nothing : (κs : _) (a : _) → dock-ofb-encrypt.Asked κs a
+dock-ofb-encrypt-asks-nothing κs a = tt
+
+pub dock-ofb-encrypt-determined : (κs : _) (a : _) (r r′ : _) (s s′ : _) → dock-ofb-encrypt.Post κs a r s → dock-ofb-encrypt.Post κs a r′ s′
+    → (r ≡ r′) × (now (s .1 .1 .1 .0) ≡ now (s′ .1 .1 .1 .0))
+dock-ofb-encrypt-determined κs a r r′ s s′ p q = (p .0 ∙ sym (q .0), p .1 ∙ sym (q .1))
+
+pub dock-ofb-encrypt-refused-keeps : (κs : _) (a : _) (r : _) (s : _) → dock-ofb-encrypt.Post κs a r s → (r ≡ 0 → ⊥) → now (s .1 .1 .1 .0) ≡ now (a .1 .1 .1 .0)
+dock-ofb-encrypt-refused-keeps κs a r s p h = p .1 ∙ mode-keeps Ofb Encrypt (now (a .0)) (now (a .1 .0)) (now (a .1 .1 .0)) (now (a .1 .1 .1 .0)) (p .0) h
+
+pub dock-ofb-decrypt-asks-nothing : (κs : _) (a : _) → dock-ofb-decrypt.Asked κs a
+dock-ofb-decrypt-asks-nothing κs a = tt
+
+pub dock-ofb-decrypt-determined : (κs : _) (a : _) (r r′ : _) (s s′ : _) → dock-ofb-decrypt.Post κs a r s → dock-ofb-decrypt.Post κs a r′ s′
+    → (r ≡ r′) × (now (s .1 .1 .1 .0) ≡ now (s′ .1 .1 .1 .0))
+dock-ofb-decrypt-determined κs a r r′ s s′ p q = (p .0 ∙ sym (q .0), p .1 ∙ sym (q .1))
+
+pub dock-ofb-decrypt-refused-keeps : (κs : _) (a : _) (r : _) (s : _) → dock-ofb-decrypt.Post κs a r s → (r ≡ 0 → ⊥) → now (s .1 .1 .1 .0) ≡ now (a .1 .1 .1 .0)
+dock-ofb-decrypt-refused-keeps κs a r s p h = p .1 ∙ mode-keeps Ofb Decrypt (now (a .0)) (now (a .1 .0)) (now (a .1 .1 .0)) (now (a .1 .1 .1 .0)) (p .0) h
+
+-- ---- the check
+
+pub dock-check-asks-nothing : (κs : _) (a : _) → dock-check.Asked κs a
+dock-check-asks-nothing κs a = tt
+
+pub dock-check-determined : (κs : _) (a : _) (r r′ : _) (s s′ : _) → dock-check.Post κs a r s → dock-check.Post κs a r′ s′ → r ≡ r′
+dock-check-determined κs a r r′ s s′ p q = p ∙ sym q
+
+pub dock-check-start-asks-nothing : (κs : _) (a : _) → dock-check-start.Asked κs a
+dock-check-start-asks-nothing κs a = tt
+
+pub dock-check-start-determined : (κs : _) (a : _) (r r′ : _) (s s′ : _) → dock-check-start.Post κs a r s → dock-check-start.Post κs a r′ s′ → r ≡ r′
+dock-check-start-determined κs a r r′ s s′ p q = p ∙ sym q
+
+pub dock-check-feed-asks-nothing : (κs : _) (a : _) → dock-check-feed.Asked κs a
+dock-check-feed-asks-nothing κs a = tt
+
+pub dock-check-feed-determined : (κs : _) (a : _) (r r′ : _) (s s′ : _) → dock-check-feed.Post κs a r s → dock-check-feed.Post κs a r′ s′ → r ≡ r′
+dock-check-feed-determined κs a r r′ s s′ p q = p ∙ sym q
+
+pub dock-check-close-asks-nothing : (κs : _) (a : _) → dock-check-close.Asked κs a
+dock-check-close-asks-nothing κs a = tt
+
+pub dock-check-close-determined : (κs : _) (a : _) (r r′ : _) (s s′ : _) → dock-check-close.Post κs a r s → dock-check-close.Post κs a r′ s′ → r ≡ r′
+dock-check-close-determined κs a r r′ s s′ p q = p ∙ sym q
+
+-- ---- images
+
+pub dock-write-asks-nothing : (κs : _) (a : _) → dock-write.Asked κs a
+dock-write-asks-nothing κs a = tt
+
+pub dock-write-determined : (κs : _) (a : _) (r r′ : _) (s s′ : _) → dock-write.Post κs a r s → dock-write.Post κs a r′ s′
+    → (r ≡ r′) × (now (s .1 .1 .1 .1 .1 .1 .0) ≡ now (s′ .1 .1 .1 .1 .1 .1 .0))
+dock-write-determined κs a r r′ s s′ p q = (p .0 ∙ sym (q .0), p .1 ∙ sym (q .1))
+
+pub dock-write-refused-keeps : (κs : _) (a : _) (r : _) (s : _) → dock-write.Post κs a r s → (r ≡ 0 → ⊥) → now (s .1 .1 .1 .1 .1 .1 .0) ≡ now (a .1 .1 .1 .1 .1 .1 .0)
+dock-write-refused-keeps κs a r s p h =
+    p .1 ∙ write-refusal-keeps (now (a .0)) (now (a .1 .0)) (a .1 .1 .0) (a .1 .1 .1 .0) (a .1 .1 .1 .1 .0) (now (a .1 .1 .1 .1 .1 .0)) (now (a .1 .1 .1 .1 .1 .1 .0)) (λ z. h (p .0 ∙ z))
+
+pub dock-read-start-asks-nothing : (κs : _) (a : _) → dock-read-start.Asked κs a
+dock-read-start-asks-nothing κs a = tt
+
+pub dock-read-start-determined : (κs : _) (a : _) (r r′ : _) (s s′ : _) → dock-read-start.Post κs a r s → dock-read-start.Post κs a r′ s′ → r ≡ r′
+dock-read-start-determined κs a r r′ s s′ p q = p ∙ sym q
+
+pub dock-read-turn-asks-nothing : (κs : _) (a : _) → dock-read-turn.Asked κs a
+dock-read-turn-asks-nothing κs a = tt
+
+pub dock-read-turn-determined : (κs : _) (a : _) (r r′ : _) (s s′ : _) → dock-read-turn.Post κs a r s → dock-read-turn.Post κs a r′ s′
+    → (r ≡ r′) × (now (s .1 .1 .1 .0) ≡ now (s′ .1 .1 .1 .0))
+dock-read-turn-determined κs a r r′ s s′ p q = (p .0 ∙ sym (q .0), p .1 ∙ sym (q .1))
+
+-- only a turn that is refused as a whole has a number
+whole : (x : Stop) → (toldOf x .number ≡ 0 → ⊥) → Whole x
+whole End h = h refl
+whole Asked h = tt
+whole Lent h = tt
+whole Room h = tt
+whole (At place reason) h = h refl
+
+-- such a turn leaves the output as it was, accepts nothing, and gives the reader back
+pub dock-read-turn-refused-keeps : (κs : _) (a : _) (r : _) (s : _) → dock-read-turn.Post κs a r s → (r .number ≡ 0 → ⊥)
+    → (now (s .1 .1 .1 .0) ≡ now (a .1 .1 .1 .0)) × (r .accepted ≡ 0) × (r .bytes ≡ 0) × (r .reader ≡ stateOf (readerOf (a .0)))
+dock-read-turn-refused-keeps κs a r s p h =
+    let lent = now (a .1 .0) in
+    let out = now (a .1 .1 .1 .0) in
+    let why = turnOf (readerOf (a .0)) lent (a .1 .1 .0) out .0 .stop in
+    let k = turn-refusal-keeps (readerOf (a .0)) lent (a .1 .1 .0) out why (whole why (λ z. h (ap (λ (x : TurnAnswer). x .number) (p .0) ∙ z))) refl in
+    let e = p .0 ∙ ap (λ (x : Turn × List ℕ). turnAnswer (x .0)) k in (
+      p .1 ∙ ap (λ (x : Turn × List ℕ). x .1) k,
+      ap (λ (x : TurnAnswer). x .accepted) e,
+      ap (λ (x : TurnAnswer). x .bytes) e,
+      ap (λ (x : TurnAnswer). x .reader) e,
+    )
+
+pub dock-read-complete-asks-nothing : (κs : _) (a : _) → dock-read-complete.Asked κs a
+dock-read-complete-asks-nothing κs a = tt
+
+pub dock-read-complete-determined : (κs : _) (a : _) (r r′ : _) (s s′ : _) → dock-read-complete.Post κs a r s → dock-read-complete.Post κs a r′ s′ → r ≡ r′
+dock-read-complete-determined κs a r r′ s s′ p q = p ∙ sym q
+
+-- ---- a reader's state, to C and back
+
+-- every reader comes back as it was
+pub state-keeps-reader : (r : Reader) → readerOf (stateOf r) ≡ r
+state-keeps-reader r =
+    ap (λ (b : Bool). record { enc = r .enc; chk = r .chk; progress = record { next = r .progress .next; fixed = b; count = r .progress .count; release = r .progress .release } })
+    (flag-back (r .progress .fixed))
+  where
+    flag-back : (b : Bool) → not (eqb (flagOf b) 0) ≡ b
+    flag-back true = refl
+    flag-back false = refl
+
+-- and every state whose flag is as the calls make it, 0 or 1
+pub reader-keeps-state : (x : ReaderState) (b : Bool) → x .fixed ≡ flagOf b → stateOf (readerOf x) ≡ x
+reader-keeps-state x b e =
+    ap (λ (n : ℕ). record { encwords = x .encwords; encrounds = x .encrounds; chkwords = x .chkwords; chkrounds = x .chkrounds; next = x .next; fixed = n; count = x .count; release = x .release })
+    (ap (λ (n : ℕ). flagOf (not (eqb n 0))) e ∙ made-back b ∙ sym e)
+  where
+    made-back : (b : Bool) → flagOf (not (eqb (flagOf b) 0)) ≡ flagOf b
+    made-back true = refl
+    made-back false = refl
+
+-- so the state that C holds stands for the reader that the library's own calls give, after a start and after every turn
+pub dock-read-start-reader : (κs : _) (a : _) (r : _) (s : _) → dock-read-start.Post κs a r s → readerOf (r .reader) ≡ startOf (now (a .0)) (now (a .1 .0)) .reader
+dock-read-start-reader κs a r s p =
+    ap (λ (x : ReadStartAnswer). readerOf (x .reader)) p ∙ state-keeps-reader (startOf (now (a .0)) (now (a .1 .0)) .reader)
+
+pub dock-read-turn-reader : (κs : _) (a : _) (r : _) (s : _) → dock-read-turn.Post κs a r s
+    → readerOf (r .reader) ≡ turnOf (readerOf (a .0)) (now (a .1 .0)) (a .1 .1 .0) (now (a .1 .1 .1 .0)) .0 .reader
+dock-read-turn-reader κs a r s p =
+    ap (λ (x : TurnAnswer). readerOf (x .reader)) (p .0) ∙ state-keeps-reader (turnOf (readerOf (a .0)) (now (a .1 .0)) (a .1 .1 .0) (now (a .1 .1 .1 .0)) .0 .reader)
+
+-- and a turn that is refused as a whole gives back the very state that a call made
+pub dock-read-turn-refused-same : (κs : _) (a : _) (r : _) (s : _) → dock-read-turn.Post κs a r s → (r .number ≡ 0 → ⊥)
+    → (b : Bool) → a .0 .fixed ≡ flagOf b → r .reader ≡ a .0
+dock-read-turn-refused-same κs a r s p h b e = dock-read-turn-refused-keeps κs a r s p h .3 ∙ reader-keeps-state (a .0) b e
+
+-- ---- the key wrap
+
+pub dock-wrap-asks-nothing : (κs : _) (a : _) → dock-wrap.Asked κs a
+dock-wrap-asks-nothing κs a = tt
+
+pub dock-wrap-determined : (κs : _) (a : _) (r r′ : _) (s s′ : _) → dock-wrap.Post κs a r s → dock-wrap.Post κs a r′ s′
+    → (r ≡ r′) × (now (s .1 .1 .0) ≡ now (s′ .1 .1 .0))
+dock-wrap-determined κs a r r′ s s′ p q = (p .0 ∙ sym (q .0), p .1 ∙ sym (q .1))
+
+pub dock-wrap-refused-keeps : (κs : _) (a : _) (r : _) (s : _) → dock-wrap.Post κs a r s → (r ≡ 0 → ⊥) → now (s .1 .1 .0) ≡ now (a .1 .1 .0)
+dock-wrap-refused-keeps κs a r s p h =
+    p .1 ∙ wrap-keeps (wrapAnswer (now (a .0)) (now (a .1 .0)) (now (a .1 .1 .0))) (now (a .0)) (now (a .1 .0)) (now (a .1 .1 .0)) (λ z. h (p .0 ∙ z))
+
+pub dock-unwrap-asks-nothing : (κs : _) (a : _) → dock-unwrap.Asked κs a
+dock-unwrap-asks-nothing κs a = tt
+
+pub dock-unwrap-determined : (κs : _) (a : _) (r r′ : _) (s s′ : _) → dock-unwrap.Post κs a r s → dock-unwrap.Post κs a r′ s′
+    → (r ≡ r′) × (now (s .1 .1 .0) ≡ now (s′ .1 .1 .0))
+dock-unwrap-determined κs a r r′ s s′ p q = (p .0 ∙ sym (q .0), p .1 ∙ sym (q .1))
+
+pub dock-unwrap-refused-keeps : (κs : _) (a : _) (r : _) (s : _) → dock-unwrap.Post κs a r s → (r ≡ 0 → ⊥) → now (s .1 .1 .0) ≡ now (a .1 .1 .0)
+dock-unwrap-refused-keeps κs a r s p h =
+    p .1 ∙ unwrap-keeps (unwrapAnswer (now (a .0)) (now (a .1 .0)) (now (a .1 .1 .0))) (now (a .0)) (now (a .1 .0)) (now (a .1 .1 .0)) (λ z. h (p .0 ∙ z))

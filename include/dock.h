@@ -1,0 +1,230 @@
+// The library's calls for C and C++: AES, its modes, the check (CMAC), release images and the key wrap.
+//
+// Building and linking. `rt staticlib abi && rt staticlib cmac` proves the library and writes target/staticlib/libabi.a and
+// libcmac.a, for x86-64 Linux. libabi.a has every call below but cmac_feed, which is in libcmac.a. Both use memcpy and memset and
+// nothing else: no heap, no file, no memory of their own that is written. So calls may run in several threads at once.
+//
+// Answers. Every call ends, and every input has one answer, the same each time: 0 where the call was carried out, or the number of
+// a refusal (enum below; docs/REFUSALS.md says what to do next). A refused call leaves every byte that was lent to it as it was, and
+// a call that was carried out changes no byte of an output past its result. One exception: a turn that stops at a bad block keeps
+// what the blocks before it gave.
+//
+// What a caller must keep true. Nothing is asked of lengths, numbers or contents. Of memory this is asked, since no call can see it:
+// - A pointer points to as many bytes as the length behind it says, for the whole call, and that memory is the caller's to lend.
+// - No pointer is null, also where its length is 0: any other address will do then. No length is above PTRDIFF_MAX.
+// - An output overlaps no other memory that the same call is lent, inputs and record alike: nothing works in place. Inputs may
+//   overlap each other, and the two keys may be the same memory. The bytes of an output may be anything before the call.
+// - Nobody else writes any of it during the call, or reads an output.
+// - The record lent to cmac_feed is aligned as its type asks. Bytes are lent at any alignment.
+//
+// Records and readers are plain values: they may be copied, stored and compared field by field, and hold no pointer. Any bytes in
+// them get a stated answer, also those that no start made: with a number of rounds that is not 10, 12 or 14 a record's check is
+// sixteen zeros, and a reader accepts no block.
+//
+// Key material. Schedules, records and readers hold expanded keys, from which the keys follow. Overwrite them when they are done
+// with. Calls by value leave copies on the stack below the caller, and no call overwrites those.
+//
+// Time. Nothing is promised of how long a call takes: it may depend on keys and data.
+#ifndef DOCK_H
+#define DOCK_H
+
+#include <stddef.h>
+#include <stdint.h>
+
+#ifdef __cplusplus
+extern "C" {
+#endif
+
+// The numbers of the answers. Where more than one refusal applies, the call says which is given.
+enum {
+    DOCK_DONE = 0,
+    DOCK_KEY_LENGTH = 1,          // a key is not 16, 24 or 32 bytes
+    DOCK_IV_LENGTH = 2,           // the IV is not empty in ECB, or not 16 bytes in another mode
+    DOCK_INPUT_LENGTH = 3,        // the input of a mode is not a multiple of 16 bytes
+    DOCK_OUTPUT_SHORT = 4,        // the output is too short for the result
+    DOCK_ASKED_NUMBER = 5,        // the number of blocks asked for is not 1 to 128
+    DOCK_LENT_LENGTH = 6,         // the bytes lent are not whole blocks of 512
+    DOCK_COUNT_RANGE = 7,         // the count is not 1 to 65,535; the value is the count
+    DOCK_BLOCK_NUMBER = 8,        // turn: not the block expected, and the value is its number; writer: not below the count
+    DOCK_COUNT_DIFFERS = 9,       // the count is not that of the first block accepted; the value is the count
+    DOCK_RELEASE_DIFFERS = 10,    // the release is not that of the first block accepted; the value is the release
+    DOCK_NUMBER_PAST_COUNT = 11,  // the number is not below the count; the value is the number
+    DOCK_PAYLOAD_LENGTH = 12,     // the payload length is wrong for its place; the value is the length
+    DOCK_RESERVED_NOT_ZERO = 13,  // the two reserved bytes are not 0; the value is their number
+    DOCK_CHECK_WRONG = 14,        // the check is wrong
+    DOCK_FILL_NOT_ZERO = 15,      // after decryption the bytes behind the payload are not zero
+    DOCK_AFTER_LAST = 16,         // a block is offered after the last
+    DOCK_NOT_COMPLETE = 17,       // the last block has not been accepted
+    DOCK_WRAP_LENGTH = 18,        // wrong length: 16 to 64 bytes are wrapped, 24 to 72 unwrapped, each a multiple of 8
+    DOCK_INITIAL_VALUE = 19       // the data is no wrapping under this key
+};
+
+// Sizes of release images, in bytes, and the most blocks that a turn may be asked for and an image may have.
+enum {
+    DOCK_IMAGE_BLOCK = 512,
+    DOCK_IMAGE_PAYLOAD = 480,
+    DOCK_MOST_ASKED = 128,
+    DOCK_MOST_BLOCKS = 65535
+};
+
+// ---- The block cipher of FIPS 197
+
+// Sixteen bytes by value, since C passes no array so.
+typedef struct {
+    uint8_t bytes[16];
+} dock_block;
+
+typedef struct {
+    uint32_t number;
+    uint32_t words[60];
+    size_t rounds;
+} dock_schedule_answer;
+
+typedef struct {
+    uint32_t number;
+    uint8_t block[16];
+} dock_block_answer;
+
+// The product of two bytes in the field of FIPS 197. It refuses nothing.
+uint8_t dock_product(uint8_t a, uint8_t b);
+
+// The key schedule of a key of 16, 24 or 32 bytes: 44, 52 or 60 words, zeros behind them, and 10, 12 or 14 rounds. The first byte
+// of a word of the standard is the highest of the number. Refused by 1, with zeros in words and rounds.
+dock_schedule_answer dock_schedule(const uint8_t *key, size_t key_length);
+
+// One block encrypted or decrypted under a key of 16, 24 or 32 bytes. Refused by 1, with zeros in block.
+dock_block_answer dock_encrypt(const uint8_t *key, size_t key_length, dock_block block);
+dock_block_answer dock_decrypt(const uint8_t *key, size_t key_length, dock_block block);
+
+// ---- The modes of SP 800-38A
+
+// Each encrypts or decrypts the input, a multiple of 16 bytes or none at all, into the front of the output, which has at least the
+// input's length. The IV is empty in ECB and 16 bytes in the other modes; CFB is that with segments of 16 bytes. The answer is 0 or
+// the first that applies of 1, 2, 3, 4. There is no padding.
+uint32_t dock_ecb_encrypt(const uint8_t *key, size_t key_length, const uint8_t *iv, size_t iv_length,
+                          const uint8_t *input, size_t input_length, uint8_t *output, size_t output_length);
+uint32_t dock_ecb_decrypt(const uint8_t *key, size_t key_length, const uint8_t *iv, size_t iv_length,
+                          const uint8_t *input, size_t input_length, uint8_t *output, size_t output_length);
+uint32_t dock_cbc_encrypt(const uint8_t *key, size_t key_length, const uint8_t *iv, size_t iv_length,
+                          const uint8_t *input, size_t input_length, uint8_t *output, size_t output_length);
+uint32_t dock_cbc_decrypt(const uint8_t *key, size_t key_length, const uint8_t *iv, size_t iv_length,
+                          const uint8_t *input, size_t input_length, uint8_t *output, size_t output_length);
+uint32_t dock_cfb_encrypt(const uint8_t *key, size_t key_length, const uint8_t *iv, size_t iv_length,
+                          const uint8_t *input, size_t input_length, uint8_t *output, size_t output_length);
+uint32_t dock_cfb_decrypt(const uint8_t *key, size_t key_length, const uint8_t *iv, size_t iv_length,
+                          const uint8_t *input, size_t input_length, uint8_t *output, size_t output_length);
+uint32_t dock_ofb_encrypt(const uint8_t *key, size_t key_length, const uint8_t *iv, size_t iv_length,
+                          const uint8_t *input, size_t input_length, uint8_t *output, size_t output_length);
+uint32_t dock_ofb_decrypt(const uint8_t *key, size_t key_length, const uint8_t *iv, size_t iv_length,
+                          const uint8_t *input, size_t input_length, uint8_t *output, size_t output_length);
+
+// ---- The check: CMAC of SP 800-38B, all 16 bytes
+
+typedef struct {
+    uint32_t number;
+    uint8_t check[16];
+} dock_check_answer;
+
+// A running check: the schedule of its key, the value of the chain, and the bytes that are not in the chain yet, up to 16.
+typedef struct {
+    uint32_t words[60];
+    size_t rounds;
+    uint8_t chain[16];
+    uint8_t held[16];
+    size_t count;
+} dock_record;
+
+typedef struct {
+    uint32_t number;
+    dock_record record;
+} dock_start_answer;
+
+// The check of a message of any length, 0 too, under a key of 16, 24 or 32 bytes. Refused by 1, with zeros in check.
+dock_check_answer dock_check(const uint8_t *key, size_t key_length, const uint8_t *message, size_t length);
+
+// A record to which nothing has been fed. Refused by 1, with the zero record, whose check is sixteen zeros whatever is fed.
+dock_start_answer dock_check_start(const uint8_t *key, size_t key_length);
+
+// The record that has taken the part in besides; the one given stays. It refuses nothing, and a part may be empty.
+dock_record dock_check_feed(dock_record record, const uint8_t *part, size_t length);
+
+// The same on the spot: the record that was lent has taken the part in. From libcmac.a.
+void cmac_feed(dock_record *record, const uint8_t *part, size_t length);
+
+// The check of all that was fed, however it was cut into parts. The number is 0: nothing is refused. The record stays as it is, so
+// that it can be fed on and closed again.
+dock_check_answer dock_check_close(dock_record record);
+
+// ---- Release images (docs/IMAGE.md)
+
+// A reader: the schedules of the encryption key and of the check key, the number of the block expected next, and count and release,
+// which the first block accepted fixes. Of fixed, 0 is no and any other value yes; calls answer 0 or 1 there.
+typedef struct {
+    uint32_t encwords[60];
+    size_t encrounds;
+    uint32_t chkwords[60];
+    size_t chkrounds;
+    uint32_t next;
+    uint32_t fixed;
+    uint32_t count;
+    uint32_t release;
+} dock_reader;
+
+typedef struct {
+    uint32_t number;
+    dock_reader reader;
+} dock_read_start_answer;
+
+// What a turn did. number: 0, or 5, 6 or 4 where the whole turn was refused. reason: why the block at place (from 0) stopped the
+// turn, 7 to 16, or 0 where none did. value: what that block held where the reason is 7 to 13, else 0. accepted: the blocks
+// accepted. bytes: the sum of their payload lengths. reader: the reader for the next turn.
+typedef struct {
+    uint32_t number;
+    uint32_t reason;
+    uint32_t value;
+    size_t place;
+    size_t accepted;
+    size_t bytes;
+    dock_reader reader;
+} dock_turn_answer;
+
+// Seals a payload as block `number` (from 0) of `count` of a release, into the first 512 bytes of the output, with an encryption key
+// and a check key of 16, 24 or 32 bytes each, which may be equal. The payload has 480 bytes in every block but the last; there 1 to
+// 480, or 0 to 480 where count is 1. The answer is 0 or the first that applies of 1, 7, 8, 12, 4.
+uint32_t dock_write(const uint8_t *ekey, size_t ekey_length, const uint8_t *ckey, size_t ckey_length,
+                    uint32_t number, uint32_t count, uint32_t release,
+                    const uint8_t *payload, size_t payload_length, uint8_t *output, size_t output_length);
+
+// A reader that expects block 0. Refused by 1 for either key, with the zero reader, which accepts nothing: a block gets 14.
+dock_read_start_answer dock_read_start(const uint8_t *ekey, size_t ekey_length, const uint8_t *ckey, size_t ckey_length);
+
+// Takes in lent blocks of 512 bytes each, as many as asked for at most, 1 to 128, up to the first that is refused. The k blocks to be
+// handled, the smaller of those lent and those asked for, want an output of 480 k bytes; no block lent wants none. The decrypted 480
+// bytes of block j of the turn, payload and zero fill, go to 480 j of the output.
+// The turn as a whole is refused by the first that applies of 5, 6, 4, with counts of 0 and the reader that was given. A block is
+// refused by the first that applies of 16, 14, 7, 8, 9, 10, 11, 12, 13, 15: the output from its place on and the reader are as the
+// block before it left them, so it may be fetched and offered again. A reader made by dock_read_start meets no 11.
+dock_turn_answer dock_read_turn(dock_reader reader, const uint8_t *blocks, size_t blocks_length, size_t asked,
+                                uint8_t *output, size_t output_length);
+
+// 0 once the last block has been accepted, and 17 before. Only this 0 says that the release is here: not the size of a file, and not
+// a turn without a refusal.
+uint32_t dock_read_complete(dock_reader reader);
+
+// ---- The key wrap of RFC 3394
+
+// Wraps key data of 16 to 64 bytes, a multiple of 8; the result, 8 bytes longer, goes into the front of the output. The answer is 0
+// or the first that applies of 1, 18, 4.
+uint32_t dock_wrap(const uint8_t *key, size_t key_length, const uint8_t *data, size_t data_length,
+                   uint8_t *output, size_t output_length);
+
+// Unwraps data of 24 to 72 bytes, a multiple of 8; the key data, 8 bytes shorter, goes into the front of the output once it is known
+// to be a wrapping under this key. The answer is 0 or the first that applies of 1, 18, 4, 19.
+uint32_t dock_unwrap(const uint8_t *key, size_t key_length, const uint8_t *data, size_t data_length,
+                     uint8_t *output, size_t output_length);
+
+#ifdef __cplusplus
+}
+#endif
+
+#endif

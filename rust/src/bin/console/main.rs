@@ -1,0 +1,264 @@
+//! The console over the safe calls: answers each line of docs/CONSOLE.md, with every piece of memory that a call is lent between
+//! canaries. `console LONGEST` takes lines of that many bytes instead of 65,536. It stops where a call changes what it may not.
+
+mod lent;
+mod words;
+
+use dock::{Check, Mode, Reader, Refusal, Turn, Way};
+use lent::{canary, stop, Lent, CANARY};
+use std::env;
+use std::io::{self, BufRead, BufWriter, Read, Write};
+use words::{array, bytes, hex, number};
+
+const LONGEST: usize = 65_536;
+
+/// What is held from line to line. The check is fed on the spot, so it stands between canaries of its own.
+struct Console {
+    longest: usize,
+    held: Held,
+    reader: Reader,
+}
+
+#[repr(C)]
+#[derive(Default)]
+struct Held {
+    before: Guard,
+    check: Check,
+    behind: Guard,
+}
+
+struct Guard([u8; CANARY]);
+
+impl Default for Guard {
+    fn default() -> Guard {
+        Guard(canary(1))
+    }
+}
+
+fn input(word: &[u8]) -> Option<Lent> {
+    Some(Lent::input(&bytes(word)?))
+}
+
+fn output(word: &[u8]) -> Option<Lent> {
+    Some(Lent::output(&bytes(word)?))
+}
+
+fn number_of<T>(result: &Result<T, Refusal>) -> u32 {
+    result.as_ref().err().map_or(0, |refusal| refusal.number())
+}
+
+impl Console {
+    fn answer(&mut self, line: &[u8]) -> Option<String> {
+        if line.len() > self.longest {
+            return None;
+        }
+        let words: Vec<&[u8]> = line.split(|byte| *byte == b' ').collect();
+        let (name, words) = words.split_first()?;
+        match (*name, words) {
+            (b"product", [a, b]) => product(a, b),
+            (b"schedule", [key]) => schedule(key),
+            (b"encrypt", [key, block]) => one_block(dock::encrypt, key, block),
+            (b"decrypt", [key, block]) => one_block(dock::decrypt, key, block),
+            (b"check", [key, message]) => check(key, message),
+            (b"check-start", [key]) => self.check_start(key),
+            (b"check-feed", [part]) => self.check_feed(part),
+            (b"check-close", []) => Some(format!("0 {}", hex(&self.held.check.close()))),
+            (b"write", words) => write(words),
+            (b"read-start", [encryption, check]) => self.read_start(encryption, check),
+            (b"read-turn", [asked, blocks, room]) => self.read_turn(asked, blocks, room),
+            (b"read-complete", []) => Some(number_of(&self.reader.complete()).to_string()),
+            (b"wrap", [key, data, room]) => wrapping(dock::wrap, key, data, room),
+            (b"unwrap", [key, data, room]) => wrapping(dock::unwrap, key, data, room),
+            (name, [key, iv, input, room]) => mode(name, key, iv, input, room),
+            _ => None,
+        }
+    }
+
+    fn check_start(&mut self, key: &[u8]) -> Option<String> {
+        let started = Check::start(&input(key)?);
+        let number = number_of(&started);
+        self.held.check = started.unwrap_or_default();
+        Some(number.to_string())
+    }
+
+    /// On the spot and by value, which must come to the same.
+    fn check_feed(&mut self, part: &[u8]) -> Option<String> {
+        let part = input(part)?;
+        let fed = self.held.check.clone().fed(&part);
+        self.held.check.feed(&part);
+        if [&self.held.before, &self.held.behind]
+            .iter()
+            .any(|guard| guard.0 != canary(1))
+        {
+            stop("a byte around a record has changed");
+        }
+        if fed.close() != self.held.check.close() {
+            stop("feeding by value and on the spot differ");
+        }
+        Some("0".to_string())
+    }
+
+    fn read_start(&mut self, encryption_key: &[u8], check_key: &[u8]) -> Option<String> {
+        let started = Reader::start(&input(encryption_key)?, &input(check_key)?);
+        let number = number_of(&started);
+        self.reader = started.unwrap_or_default();
+        Some(number.to_string())
+    }
+
+    fn read_turn(&mut self, asked: &[u8], blocks: &[u8], room: &[u8]) -> Option<String> {
+        let (asked, blocks, mut room) = (number(asked)?, input(blocks)?, output(room)?);
+        let expected = self.reader.expected();
+        let turn = self.reader.turn(&blocks, asked, room.lend());
+        let accepted = turn.as_ref().map_or(0, |turn| turn.accepted);
+        if (self.reader.expected() - expected) as usize != accepted {
+            stop("the blocks accepted are the advance of the reader");
+        }
+        Some(format!("{} {}", turn_words(&turn), hex(&room)))
+    }
+}
+
+fn product(a: &[u8], b: &[u8]) -> Option<String> {
+    let ([a], [b]) = (array(a)?, array(b)?);
+    Some(format!("0 {}", hex(&[dock::product(a, b)])))
+}
+
+fn schedule(key: &[u8]) -> Option<String> {
+    let key = input(key)?;
+    let made = dock::schedule(&key);
+    let words = made.as_ref().map_or([0; 60], |schedule| *schedule.words());
+    if made
+        .as_ref()
+        .map_or(false, |schedule| schedule.rounds() != key.len() / 4 + 6)
+    {
+        stop("the rounds of a schedule");
+    }
+    let words: Vec<u8> = words.iter().flat_map(|word| word.to_be_bytes()).collect();
+    Some(format!("{} {}", number_of(&made), hex(&words)))
+}
+
+type OneBlock = fn(&[u8], [u8; 16]) -> Result<[u8; 16], Refusal>;
+
+fn one_block(call: OneBlock, key: &[u8], block: &[u8]) -> Option<String> {
+    let (key, block) = (input(key)?, array(block)?);
+    Some(block_words(call(&key, block)))
+}
+
+fn check(key: &[u8], message: &[u8]) -> Option<String> {
+    let (key, message) = (input(key)?, input(message)?);
+    Some(block_words(dock::check(&key, &message)))
+}
+
+fn mode(name: &[u8], key: &[u8], iv: &[u8], data: &[u8], room: &[u8]) -> Option<String> {
+    let (mode, way) = match name {
+        b"ecb-encrypt" => (Mode::Ecb, Way::Encrypt),
+        b"ecb-decrypt" => (Mode::Ecb, Way::Decrypt),
+        b"cbc-encrypt" => (Mode::Cbc, Way::Encrypt),
+        b"cbc-decrypt" => (Mode::Cbc, Way::Decrypt),
+        b"cfb-encrypt" => (Mode::Cfb, Way::Encrypt),
+        b"cfb-decrypt" => (Mode::Cfb, Way::Decrypt),
+        b"ofb-encrypt" => (Mode::Ofb, Way::Encrypt),
+        b"ofb-decrypt" => (Mode::Ofb, Way::Decrypt),
+        _ => return None,
+    };
+    let (key, iv, data, mut room) = (input(key)?, input(iv)?, input(data)?, output(room)?);
+    let result = dock::apply(mode, way, &key, &iv, &data, room.lend());
+    Some(format!("{} {}", number_of(&result), hex(&room)))
+}
+
+fn write(words: &[&[u8]]) -> Option<String> {
+    let (keys, numbers, rest) = match words {
+        [ekey, ckey, block, count, release, rest @ ..] => {
+            ([input(ekey)?, input(ckey)?], [block, count, release], rest)
+        }
+        _ => return None,
+    };
+    let [block, count, release] = numbers.map(|word| number(word));
+    let (payload, mut room) = match rest {
+        [payload, room] => (input(payload)?, output(room)?),
+        _ => return None,
+    };
+    let [ekey, ckey] = &keys;
+    let result = dock::write(ekey, ckey, block?, count?, release?, &payload, room.lend());
+    Some(format!("{} {}", number_of(&result), hex(&room)))
+}
+
+type Wrapping = fn(&[u8], &[u8], &mut [u8]) -> Result<(), Refusal>;
+
+fn wrapping(call: Wrapping, key: &[u8], data: &[u8], room: &[u8]) -> Option<String> {
+    let (key, data, mut room) = (input(key)?, input(data)?, output(room)?);
+    let result = call(&key, &data, room.lend());
+    Some(format!("{} {}", number_of(&result), hex(&room)))
+}
+
+fn block_words(result: Result<[u8; 16], Refusal>) -> String {
+    format!(
+        "{} {}",
+        number_of(&result),
+        hex(&result.unwrap_or_default())
+    )
+}
+
+/// Everything that a turn answers before its output.
+fn turn_words(turn: &Result<Turn, Refusal>) -> String {
+    let number = number_of(turn);
+    let (accepted, sum) = turn
+        .as_ref()
+        .map_or((0, 0), |turn| (turn.accepted, turn.bytes));
+    let stopped = match turn.as_ref().ok().and_then(|turn| turn.stop) {
+        None => "- - -".to_string(),
+        Some(stop) => {
+            let value = stop
+                .value
+                .map_or("-".to_string(), |value| value.to_string());
+            format!("{} {} {value}", stop.place, stop.reason.number())
+        }
+    };
+    format!("{number} {accepted} {sum} {stopped}")
+}
+
+/// Reads the next line without its line feed, or says that there is none. Of a line that is too long one byte too many is kept.
+fn next_line(from: &mut impl BufRead, longest: usize, line: &mut Vec<u8>) -> io::Result<bool> {
+    line.clear();
+    if from
+        .by_ref()
+        .take(longest as u64 + 1)
+        .read_until(b'\n', line)?
+        == 0
+    {
+        return Ok(false);
+    }
+    if line.last() == Some(&b'\n') {
+        line.pop();
+    } else if line.len() > longest {
+        skip_line(from)?;
+    }
+    Ok(true)
+}
+
+fn skip_line(from: &mut impl BufRead) -> io::Result<()> {
+    loop {
+        let part = from.fill_buf()?;
+        let feed = part.iter().position(|byte| *byte == b'\n');
+        let used = feed.map_or(part.len(), |at| at + 1);
+        from.consume(used);
+        if feed.is_some() || used == 0 {
+            return Ok(());
+        }
+    }
+}
+
+fn main() -> io::Result<()> {
+    let longest = env::args().nth(1).and_then(|word| word.parse().ok());
+    let mut console = Console {
+        longest: longest.unwrap_or(LONGEST),
+        held: Held::default(),
+        reader: Reader::default(),
+    };
+    let (mut from, mut to) = (io::stdin().lock(), BufWriter::new(io::stdout().lock()));
+    let mut line = Vec::new();
+    while next_line(&mut from, console.longest, &mut line)? {
+        let answer = console.answer(&line);
+        writeln!(to, "{}", answer.as_deref().unwrap_or("?"))?;
+    }
+    to.flush()
+}

@@ -1,0 +1,158 @@
+//! Release images: a writer of blocks, and a reader that takes them in turns (`docs/IMAGE.md`).
+
+use crate::refusal::Refusal;
+use crate::sys;
+use std::fmt;
+
+/// Seals a payload as block `number`, from 0, of `count` of a release, into the first 512 bytes of the output.
+///
+/// The keys have 16, 24 or 32 bytes each and may be equal. The payload has 480 bytes in every block but the last; there 1 to 480,
+/// or 0 to 480 where the count is 1. Refused by the first that applies of 1, 7, 8, 12, 4.
+pub fn write(
+    encryption_key: &[u8],
+    check_key: &[u8],
+    number: u32,
+    count: u32,
+    release: u32,
+    payload: &[u8],
+    output: &mut [u8],
+) -> Result<(), Refusal> {
+    // SAFETY: pointers and lengths are those of slices, and the output is lent by `&mut`.
+    let number = unsafe {
+        sys::dock_write(
+            encryption_key.as_ptr(),
+            encryption_key.len(),
+            check_key.as_ptr(),
+            check_key.len(),
+            number,
+            count,
+            release,
+            payload.as_ptr(),
+            payload.len(),
+            output.as_mut_ptr(),
+            output.len(),
+        )
+    };
+    Refusal::answered(number, ())
+}
+
+/// A reader of an image: how far it has come, under two keys.
+///
+/// The default has no keys and accepts nothing: each block is refused by 14.
+#[derive(Clone)]
+pub struct Reader(sys::Reader);
+
+/// What a turn did that was not refused as a whole.
+#[derive(Clone, Copy, PartialEq, Eq, Debug)]
+pub struct Turn {
+    /// The blocks accepted.
+    pub accepted: usize,
+    /// The sum of their payload lengths. Every block before the last is full, so the payload stands in the first bytes of the output.
+    pub bytes: usize,
+    /// The block that ended the turn, where one was refused.
+    pub stop: Option<Stop>,
+}
+
+/// A refused block. It changed nothing, so it may be fetched and offered again.
+#[derive(Clone, Copy, PartialEq, Eq, Debug)]
+pub struct Stop {
+    /// Its place in the turn, from 0: the number of blocks accepted before it.
+    pub place: usize,
+    /// Why it was refused.
+    pub reason: Refusal,
+    /// What it held, where the reason is one of 7 to 13.
+    pub value: Option<u32>,
+}
+
+impl Reader {
+    /// A reader that expects block 0. The keys have 16, 24 or 32 bytes each. Refused by 1.
+    pub fn start(encryption_key: &[u8], check_key: &[u8]) -> Result<Reader, Refusal> {
+        // SAFETY: pointers and lengths are those of slices.
+        let answer = unsafe {
+            sys::dock_read_start(
+                encryption_key.as_ptr(),
+                encryption_key.len(),
+                check_key.as_ptr(),
+                check_key.len(),
+            )
+        };
+        Refusal::answered(answer.number, Reader(answer.reader))
+    }
+
+    /// Takes in lent blocks of 512 bytes, as many as asked for at most, 1 to 128, up to the first that is refused.
+    ///
+    /// The output has 480 bytes for each block to be handled; the decrypted 480 bytes of block j of the turn go to 480 j. Refused as a
+    /// whole by the first that applies of 5, 6, 4; a block is refused by the first of 16, 14, 7, 8, 9, 10, 11, 12, 13, 15.
+    pub fn turn(
+        &mut self,
+        blocks: &[u8],
+        asked: usize,
+        output: &mut [u8],
+    ) -> Result<Turn, Refusal> {
+        // SAFETY: pointers and lengths are those of slices, the output is lent by `&mut`, and any bytes in a reader have an answer.
+        let answer = unsafe {
+            sys::dock_read_turn(
+                self.0,
+                blocks.as_ptr(),
+                blocks.len(),
+                asked,
+                output.as_mut_ptr(),
+                output.len(),
+            )
+        };
+        self.0 = answer.reader;
+        Refusal::answered(answer.number, turn_of(&answer))
+    }
+
+    /// Whether the last block has been accepted, which alone says that the release is here. Refused by 17 before.
+    pub fn complete(&self) -> Result<(), Refusal> {
+        // SAFETY: the reader is passed by value, and any bytes in it have an answer.
+        let number = unsafe { sys::dock_read_complete(self.0) };
+        Refusal::answered(number, ())
+    }
+
+    /// The number of the block expected next.
+    pub fn expected(&self) -> u32 {
+        self.0.next
+    }
+
+    /// The count of blocks, once a block has been accepted.
+    pub fn count(&self) -> Option<u32> {
+        Some(self.0.count).filter(|_| self.0.fixed != 0)
+    }
+
+    /// The release, once a block has been accepted.
+    pub fn release(&self) -> Option<u32> {
+        Some(self.0.release).filter(|_| self.0.fixed != 0)
+    }
+}
+
+fn turn_of(answer: &sys::TurnAnswer) -> Turn {
+    let stop = Refusal::of(answer.reason).map(|reason| Stop {
+        place: answer.place,
+        reason,
+        value: Some(answer.value).filter(|_| reason.holds_value()),
+    });
+    Turn {
+        accepted: answer.accepted,
+        bytes: answer.bytes,
+        stop,
+    }
+}
+
+impl Default for Reader {
+    fn default() -> Reader {
+        Reader(sys::Reader::ZERO)
+    }
+}
+
+/// Shows how far it has come, and no key material.
+impl fmt::Debug for Reader {
+    fn fmt(&self, f: &mut fmt::Formatter<'_>) -> fmt::Result {
+        f.debug_struct("Reader")
+            .field("expected", &self.expected())
+            .field("count", &self.count())
+            .field("release", &self.release())
+            .finish_non_exhaustive()
+    }
+}

@@ -1,0 +1,120 @@
+//! The numbered refusals.
+
+use std::error::Error;
+use std::fmt;
+
+/// Why a call was not carried out.
+#[derive(Clone, Copy, PartialEq, Eq, Hash, Debug)]
+#[non_exhaustive]
+pub enum Refusal {
+    /// 1: a key is not 16, 24 or 32 bytes.
+    KeyLength,
+    /// 2: the IV is not empty in ECB, or not 16 bytes in another mode.
+    IvLength,
+    /// 3: the input of a mode is not a multiple of 16 bytes.
+    InputLength,
+    /// 4: the output is too short for the result.
+    OutputShort,
+    /// 5: the number of blocks asked for is not 1 to 128.
+    AskedNumber,
+    /// 6: the bytes lent are not whole blocks of 512.
+    LentLength,
+    /// 7: the count is not 1 to 65,535.
+    CountRange,
+    /// 8: the block is not the one expected; of the writer, its number is not below the count.
+    BlockNumber,
+    /// 9: the count is not that of the first block accepted.
+    CountDiffers,
+    /// 10: the release is not that of the first block accepted.
+    ReleaseDiffers,
+    /// 11: the number is not below the count. No reader that was started with keys gives it.
+    NumberPastCount,
+    /// 12: the payload length is wrong for its place.
+    PayloadLength,
+    /// 13: the two reserved bytes are not 0.
+    ReservedNotZero,
+    /// 14: the check is wrong.
+    CheckWrong,
+    /// 15: after decryption the bytes behind the payload are not zero.
+    FillNotZero,
+    /// 16: a block is offered after the last.
+    AfterLast,
+    /// 17: the last block has not been accepted.
+    NotComplete,
+    /// 18: wrong length: 16 to 64 bytes are wrapped, 24 to 72 unwrapped, each a multiple of 8.
+    WrapLength,
+    /// 19: the data is no wrapping under this key.
+    InitialValue,
+    /// A number that this edition of the wrapper has no name for.
+    Other(u32),
+}
+
+use Refusal::*;
+
+/// In the order of their numbers, from 1 on.
+const NAMED: [(Refusal, &str); 19] = [
+    (KeyLength, "a key is not 16, 24 or 32 bytes"),
+    (IvLength, "the IV has a wrong length for the mode"),
+    (InputLength, "the input is not a multiple of 16 bytes"),
+    (OutputShort, "the output is too short"),
+    (AskedNumber, "the number asked for is not 1 to 128"),
+    (LentLength, "the bytes lent are not whole blocks of 512"),
+    (CountRange, "the count is not 1 to 65,535"),
+    (BlockNumber, "the number of the block is wrong"),
+    (CountDiffers, "the count is not that of the first block"),
+    (ReleaseDiffers, "the release is not that of the first block"),
+    (NumberPastCount, "the number is not below the count"),
+    (PayloadLength, "the payload length is wrong for its place"),
+    (ReservedNotZero, "the reserved bytes are not 0"),
+    (CheckWrong, "the check is wrong"),
+    (FillNotZero, "the fill is not zero"),
+    (AfterLast, "the block comes after the last"),
+    (NotComplete, "the last block has not been accepted"),
+    (WrapLength, "the data has a wrong length"),
+    (InitialValue, "the data is no wrapping under this key"),
+];
+
+impl Refusal {
+    /// The number of the refusal in `docs/REFUSALS.md`.
+    pub fn number(self) -> u32 {
+        match self {
+            Other(number) => number,
+            named => (1..)
+                .zip(NAMED)
+                .find(|(_, (refusal, _))| *refusal == named)
+                .map_or(0, |(number, _)| number),
+        }
+    }
+
+    /// Whether a block that is refused for this reason is shown with the value found.
+    pub(crate) fn holds_value(self) -> bool {
+        (CountRange.number()..=ReservedNotZero.number()).contains(&self.number())
+    }
+
+    /// The refusal of a number; 0 is none.
+    pub(crate) fn of(number: u32) -> Option<Refusal> {
+        if number == 0 {
+            return None;
+        }
+        let named = (1..).zip(NAMED).find(|(n, _)| *n == number);
+        Some(named.map_or(Other(number), |(_, (refusal, _))| refusal))
+    }
+
+    /// What a call answered.
+    pub(crate) fn answered<T>(number: u32, result: T) -> Result<T, Refusal> {
+        match Refusal::of(number) {
+            None => Ok(result),
+            Some(refusal) => Err(refusal),
+        }
+    }
+}
+
+impl fmt::Display for Refusal {
+    fn fmt(&self, f: &mut fmt::Formatter<'_>) -> fmt::Result {
+        let words = NAMED.iter().find(|(refusal, _)| refusal == self);
+        let words = words.map_or("a number without a name", |(_, words)| words);
+        write!(f, "refusal {}: {words}", self.number())
+    }
+}
+
+impl Error for Refusal {}

@@ -1,0 +1,191 @@
+//! The calls as C has them, with the layouts of `include/dock.h`, which says what each does.
+//!
+//! What it asks of memory holds of slices: they are not null, are as long as they say and no longer than `isize::MAX`, and one that
+//! is lent by `&mut` overlaps no other. So a call is sound where each pointer and length are those of a slice, an output's of one
+//! that is lent by `&mut` for the call, and a record's a `&mut`.
+#![allow(missing_docs)]
+
+#[repr(C)]
+#[derive(Clone, Copy)]
+pub struct Block {
+    pub bytes: [u8; 16],
+}
+
+#[repr(C)]
+#[derive(Clone, Copy)]
+pub struct ScheduleAnswer {
+    pub number: u32,
+    pub words: [u32; 60],
+    pub rounds: usize,
+}
+
+#[repr(C)]
+#[derive(Clone, Copy)]
+pub struct BlockAnswer {
+    pub number: u32,
+    pub block: [u8; 16],
+}
+
+#[repr(C)]
+#[derive(Clone, Copy)]
+pub struct CheckAnswer {
+    pub number: u32,
+    pub check: [u8; 16],
+}
+
+#[repr(C)]
+#[derive(Clone, Copy)]
+pub struct Record {
+    pub words: [u32; 60],
+    pub rounds: usize,
+    pub chain: [u8; 16],
+    pub held: [u8; 16],
+    pub count: usize,
+}
+
+#[repr(C)]
+#[derive(Clone, Copy)]
+pub struct StartAnswer {
+    pub number: u32,
+    pub record: Record,
+}
+
+#[repr(C)]
+#[derive(Clone, Copy)]
+pub struct Reader {
+    pub encwords: [u32; 60],
+    pub encrounds: usize,
+    pub chkwords: [u32; 60],
+    pub chkrounds: usize,
+    pub next: u32,
+    pub fixed: u32,
+    pub count: u32,
+    pub release: u32,
+}
+
+#[repr(C)]
+#[derive(Clone, Copy)]
+pub struct ReadStartAnswer {
+    pub number: u32,
+    pub reader: Reader,
+}
+
+#[repr(C)]
+#[derive(Clone, Copy)]
+pub struct TurnAnswer {
+    pub number: u32,
+    pub reason: u32,
+    pub value: u32,
+    pub place: usize,
+    pub accepted: usize,
+    pub bytes: usize,
+    pub reader: Reader,
+}
+
+impl Record {
+    pub const ZERO: Record = Record {
+        words: [0; 60],
+        rounds: 0,
+        chain: [0; 16],
+        held: [0; 16],
+        count: 0,
+    };
+}
+
+impl Reader {
+    pub const ZERO: Reader = Reader {
+        encwords: [0; 60],
+        encrounds: 0,
+        chkwords: [0; 60],
+        chkrounds: 0,
+        next: 0,
+        fixed: 0,
+        count: 0,
+        release: 0,
+    };
+}
+
+/// One of the eight calls of the modes: key, IV, input and output, each with its length.
+pub type ModeCall = unsafe extern "C" fn(
+    *const u8,
+    usize,
+    *const u8,
+    usize,
+    *const u8,
+    usize,
+    *mut u8,
+    usize,
+) -> u32;
+
+/// One of the two calls of the key wrap: key, data and output, each with its length.
+pub type WrapCall = unsafe extern "C" fn(*const u8, usize, *const u8, usize, *mut u8, usize) -> u32;
+
+#[rustfmt::skip]
+extern "C" {
+    pub fn dock_product(a: u8, b: u8) -> u8;
+    pub fn dock_schedule(key: *const u8, key_length: usize) -> ScheduleAnswer;
+    pub fn dock_encrypt(key: *const u8, key_length: usize, block: Block) -> BlockAnswer;
+    pub fn dock_decrypt(key: *const u8, key_length: usize, block: Block) -> BlockAnswer;
+
+    pub fn dock_ecb_encrypt(
+        key: *const u8, key_length: usize, iv: *const u8, iv_length: usize,
+        input: *const u8, input_length: usize, output: *mut u8, output_length: usize,
+    ) -> u32;
+    pub fn dock_ecb_decrypt(
+        key: *const u8, key_length: usize, iv: *const u8, iv_length: usize,
+        input: *const u8, input_length: usize, output: *mut u8, output_length: usize,
+    ) -> u32;
+    pub fn dock_cbc_encrypt(
+        key: *const u8, key_length: usize, iv: *const u8, iv_length: usize,
+        input: *const u8, input_length: usize, output: *mut u8, output_length: usize,
+    ) -> u32;
+    pub fn dock_cbc_decrypt(
+        key: *const u8, key_length: usize, iv: *const u8, iv_length: usize,
+        input: *const u8, input_length: usize, output: *mut u8, output_length: usize,
+    ) -> u32;
+    pub fn dock_cfb_encrypt(
+        key: *const u8, key_length: usize, iv: *const u8, iv_length: usize,
+        input: *const u8, input_length: usize, output: *mut u8, output_length: usize,
+    ) -> u32;
+    pub fn dock_cfb_decrypt(
+        key: *const u8, key_length: usize, iv: *const u8, iv_length: usize,
+        input: *const u8, input_length: usize, output: *mut u8, output_length: usize,
+    ) -> u32;
+    pub fn dock_ofb_encrypt(
+        key: *const u8, key_length: usize, iv: *const u8, iv_length: usize,
+        input: *const u8, input_length: usize, output: *mut u8, output_length: usize,
+    ) -> u32;
+    pub fn dock_ofb_decrypt(
+        key: *const u8, key_length: usize, iv: *const u8, iv_length: usize,
+        input: *const u8, input_length: usize, output: *mut u8, output_length: usize,
+    ) -> u32;
+
+    pub fn dock_check(key: *const u8, key_length: usize, message: *const u8, length: usize) -> CheckAnswer;
+    pub fn dock_check_start(key: *const u8, key_length: usize) -> StartAnswer;
+    pub fn dock_check_feed(record: Record, part: *const u8, length: usize) -> Record;
+    pub fn cmac_feed(record: *mut Record, part: *const u8, length: usize);
+    pub fn dock_check_close(record: Record) -> CheckAnswer;
+
+    pub fn dock_write(
+        ekey: *const u8, ekey_length: usize, ckey: *const u8, ckey_length: usize,
+        number: u32, count: u32, release: u32,
+        payload: *const u8, payload_length: usize, output: *mut u8, output_length: usize,
+    ) -> u32;
+    pub fn dock_read_start(
+        ekey: *const u8, ekey_length: usize, ckey: *const u8, ckey_length: usize,
+    ) -> ReadStartAnswer;
+    pub fn dock_read_turn(
+        reader: Reader, blocks: *const u8, blocks_length: usize, asked: usize,
+        output: *mut u8, output_length: usize,
+    ) -> TurnAnswer;
+    pub fn dock_read_complete(reader: Reader) -> u32;
+
+    pub fn dock_wrap(
+        key: *const u8, key_length: usize, data: *const u8, data_length: usize,
+        output: *mut u8, output_length: usize,
+    ) -> u32;
+    pub fn dock_unwrap(
+        key: *const u8, key_length: usize, data: *const u8, data_length: usize,
+        output: *mut u8, output_length: usize,
+    ) -> u32;
+}

@@ -1,0 +1,299 @@
+// The console over dock.h: answers each line of docs/CONSOLE.md by the call linked from C, with every piece of memory that a call is
+// lent between canaries. `console LONGEST` takes lines of that many bytes instead of 65,536. It stops where a call changes what it may
+// not, and where its answer has other than zeros, or another record or reader, in a place for which dock.h says so.
+#include <stdbool.h>
+#include <stdio.h>
+#include <stdlib.h>
+#include <string.h>
+
+#include "../../include/dock.h"
+#include "lent.h"
+#include "line.h"
+
+enum { LONGEST = 65536, MOST_WORDS = 8 };
+
+// These have no bytes between their fields, so they can be compared whole.
+_Static_assert(sizeof(dock_record) == 60 * 4 + 8 + 16 + 16 + 8, "the layout of a record");
+_Static_assert(sizeof(dock_reader) == 2 * (60 * 4 + 8) + 4 * 4, "the layout of a reader");
+
+static const dock_record zero_record;
+static const dock_reader zero_reader;
+
+// What is held from line to line.
+static dock_record record;
+static dock_reader reader;
+
+typedef uint32_t mode_call(const uint8_t *, size_t, const uint8_t *, size_t, const uint8_t *, size_t, uint8_t *, size_t);
+typedef uint32_t wrap_call(const uint8_t *, size_t, const uint8_t *, size_t, uint8_t *, size_t);
+typedef dock_block_answer block_call(const uint8_t *, size_t, dock_block);
+
+typedef struct form form;
+
+struct form {
+    const char *name;
+    size_t words;  // behind the name
+    bool (*answer)(const form *, const word *);
+    union {
+        mode_call *mode;
+        wrap_call *wrap;
+        block_call *block;
+    } call;  // where one function answers for several calls
+};
+
+static void expect(bool holds, const char *what) {
+    if (!holds) lent_stop(what);
+}
+
+// The bytes of a word in lent memory, or NULL where it is no hex.
+static lent *output(word w) {
+    size_t size;
+    if (!word_size(w, &size)) return NULL;
+    lent *l = lent_room(size, 1);
+    word_bytes(w, l->bytes);
+    return l;
+}
+
+static const lent *input(word w) {
+    lent *l = output(w);
+    if (l) lent_keep(l);
+    return l;
+}
+
+// Exactly that many bytes, to be passed by value.
+static bool fixed(word w, uint8_t *bytes, size_t length) {
+    size_t size;
+    bool right = word_size(w, &size) && size == length;
+    if (right) word_bytes(w, bytes);
+    return right;
+}
+
+static bool number32(word w, uint32_t *number) {
+    uint64_t wide;
+    bool right = word_number(w, UINT32_MAX, &wide);
+    *number = (uint32_t)wide;
+    return right;
+}
+
+static bool product(const form *f, const word *w) {
+    (void)f;
+    uint8_t a, b;
+    if (!fixed(w[0], &a, 1) || !fixed(w[1], &b, 1)) return false;
+    uint8_t result = dock_product(a, b);
+    put_number(0);
+    put_bytes(&result, 1);
+    return true;
+}
+
+static void put_words(const uint32_t *words) {
+    uint8_t bytes[240];
+    for (size_t i = 0; i < 240; i++) bytes[i] = (uint8_t)(words[i / 4] >> (24 - i % 4 * 8));
+    put_bytes(bytes, sizeof bytes);
+}
+
+static bool schedule(const form *f, const word *w) {
+    (void)f;
+    const lent *key = input(w[0]);
+    if (!key) return false;
+    dock_schedule_answer answer = dock_schedule(key->bytes, key->length);
+    expect(answer.rounds == (answer.number == 0 ? key->length / 4 + 6 : 0), "the rounds of a schedule");
+    put_number(answer.number);
+    put_words(answer.words);
+    return true;
+}
+
+static bool one_block(const form *f, const word *w) {
+    const lent *key = input(w[0]);
+    dock_block block;
+    if (!key || !fixed(w[1], block.bytes, 16)) return false;
+    dock_block_answer answer = f->call.block(key->bytes, key->length, block);
+    put_number(answer.number);
+    put_bytes(answer.block, 16);
+    return true;
+}
+
+static bool mode(const form *f, const word *w) {
+    const lent *key = input(w[0]), *iv = input(w[1]), *in = input(w[2]), *out = output(w[3]);
+    if (!key || !iv || !in || !out) return false;
+    put_number(f->call.mode(key->bytes, key->length, iv->bytes, iv->length, in->bytes, in->length, out->bytes, out->length));
+    put_bytes(out->bytes, out->length);
+    return true;
+}
+
+static bool check(const form *f, const word *w) {
+    (void)f;
+    const lent *key = input(w[0]), *message = input(w[1]);
+    if (!key || !message) return false;
+    dock_check_answer answer = dock_check(key->bytes, key->length, message->bytes, message->length);
+    put_number(answer.number);
+    put_bytes(answer.check, 16);
+    return true;
+}
+
+static bool check_start(const form *f, const word *w) {
+    (void)f;
+    const lent *key = input(w[0]);
+    if (!key) return false;
+    dock_start_answer answer = dock_check_start(key->bytes, key->length);
+    record = answer.record;
+    expect(answer.number == 0 || memcmp(&record, &zero_record, sizeof record) == 0, "the record of a refused start");
+    put_number(answer.number);
+    return true;
+}
+
+// By value and on the spot, which must come to the same.
+static bool check_feed(const form *f, const word *w) {
+    (void)f;
+    const lent *part = input(w[0]);
+    if (!part) return false;
+    dock_record before = record;
+    dock_record fed = dock_check_feed(record, part->bytes, part->length);
+    expect(memcmp(&record, &before, sizeof record) == 0, "feeding by value changes the record that it was given");
+    lent *spot = lent_room(sizeof record, _Alignof(dock_record));
+    memcpy(spot->bytes, &record, sizeof record);
+    cmac_feed((dock_record *)(void *)spot->bytes, part->bytes, part->length);
+    expect(memcmp(&fed, spot->bytes, sizeof fed) == 0, "feeding by value and on the spot differ");
+    record = fed;
+    put_number(0);
+    return true;
+}
+
+static bool check_close(const form *f, const word *w) {
+    (void)f;
+    (void)w;
+    dock_record before = record;
+    dock_check_answer answer = dock_check_close(record);
+    expect(memcmp(&record, &before, sizeof record) == 0, "closing changes the record");
+    put_number(answer.number);
+    put_bytes(answer.check, 16);
+    return true;
+}
+
+static bool write_block(const form *f, const word *w) {
+    (void)f;
+    uint32_t number, count, release;
+    const lent *ekey = input(w[0]), *ckey = input(w[1]), *payload = input(w[5]), *out = output(w[6]);
+    if (!ekey || !ckey || !payload || !out) return false;
+    if (!number32(w[2], &number) || !number32(w[3], &count) || !number32(w[4], &release)) return false;
+    put_number(dock_write(ekey->bytes, ekey->length, ckey->bytes, ckey->length, number, count, release,
+                          payload->bytes, payload->length, out->bytes, out->length));
+    put_bytes(out->bytes, out->length);
+    return true;
+}
+
+static bool read_start(const form *f, const word *w) {
+    (void)f;
+    const lent *ekey = input(w[0]), *ckey = input(w[1]);
+    if (!ekey || !ckey) return false;
+    dock_read_start_answer answer = dock_read_start(ekey->bytes, ekey->length, ckey->bytes, ckey->length);
+    reader = answer.reader;
+    expect(answer.number == 0 || memcmp(&reader, &zero_reader, sizeof reader) == 0, "the reader of a refused start");
+    put_number(answer.number);
+    return true;
+}
+
+static bool holds_value(uint32_t reason) {
+    return reason >= DOCK_COUNT_RANGE && reason <= DOCK_RESERVED_NOT_ZERO;
+}
+
+// What dock.h says of a turn's answer and the lines do not show.
+static void look_at(const dock_turn_answer *turn, const dock_reader *before) {
+    if (turn->number != 0) {
+        expect(turn->reason == 0 && turn->accepted == 0 && turn->bytes == 0, "counts of a turn that was refused as a whole");
+        expect(memcmp(&turn->reader, before, sizeof *before) == 0, "the reader of a turn that was refused as a whole");
+    }
+    expect(turn->reason != 0 || turn->place == 0, "a place where no block was refused");
+    expect(holds_value(turn->reason) || turn->value == 0, "a value where the reason holds none");
+    expect(turn->reader.next - before->next == turn->accepted, "the blocks accepted are the advance of the reader");
+}
+
+static void put_stop(const dock_turn_answer *turn) {
+    if (turn->reason == 0) {
+        put_text("- - -");
+        return;
+    }
+    put_number(turn->place);
+    put_number(turn->reason);
+    if (holds_value(turn->reason)) put_number(turn->value);
+    else put_text("-");
+}
+
+static bool read_turn(const form *f, const word *w) {
+    (void)f;
+    uint64_t asked;
+    const lent *blocks = input(w[1]), *out = output(w[2]);
+    if (!word_number(w[0], UINT64_MAX, &asked) || !blocks || !out) return false;
+    dock_turn_answer turn = dock_read_turn(reader, blocks->bytes, blocks->length, asked, out->bytes, out->length);
+    look_at(&turn, &reader);
+    reader = turn.reader;
+    put_number(turn.number);
+    put_number(turn.accepted);
+    put_number(turn.bytes);
+    put_stop(&turn);
+    put_bytes(out->bytes, out->length);
+    return true;
+}
+
+static bool read_complete(const form *f, const word *w) {
+    (void)f;
+    (void)w;
+    put_number(dock_read_complete(reader));
+    return true;
+}
+
+static bool wrap(const form *f, const word *w) {
+    const lent *key = input(w[0]), *data = input(w[1]), *out = output(w[2]);
+    if (!key || !data || !out) return false;
+    put_number(f->call.wrap(key->bytes, key->length, data->bytes, data->length, out->bytes, out->length));
+    put_bytes(out->bytes, out->length);
+    return true;
+}
+
+static const form forms[] = {
+    {"product", 2, product, {NULL}},
+    {"schedule", 1, schedule, {NULL}},
+    {"encrypt", 2, one_block, {.block = dock_encrypt}},
+    {"decrypt", 2, one_block, {.block = dock_decrypt}},
+    {"ecb-encrypt", 4, mode, {.mode = dock_ecb_encrypt}},
+    {"ecb-decrypt", 4, mode, {.mode = dock_ecb_decrypt}},
+    {"cbc-encrypt", 4, mode, {.mode = dock_cbc_encrypt}},
+    {"cbc-decrypt", 4, mode, {.mode = dock_cbc_decrypt}},
+    {"cfb-encrypt", 4, mode, {.mode = dock_cfb_encrypt}},
+    {"cfb-decrypt", 4, mode, {.mode = dock_cfb_decrypt}},
+    {"ofb-encrypt", 4, mode, {.mode = dock_ofb_encrypt}},
+    {"ofb-decrypt", 4, mode, {.mode = dock_ofb_decrypt}},
+    {"check", 2, check, {NULL}},
+    {"check-start", 1, check_start, {NULL}},
+    {"check-feed", 1, check_feed, {NULL}},
+    {"check-close", 0, check_close, {NULL}},
+    {"write", 7, write_block, {NULL}},
+    {"read-start", 2, read_start, {NULL}},
+    {"read-turn", 3, read_turn, {NULL}},
+    {"read-complete", 0, read_complete, {NULL}},
+    {"wrap", 3, wrap, {.wrap = dock_wrap}},
+    {"unwrap", 3, wrap, {.wrap = dock_unwrap}},
+};
+
+static const form *form_named(word name) {
+    for (size_t i = 0; i < sizeof forms / sizeof *forms; i++)
+        if (word_is(name, forms[i].name)) return &forms[i];
+    return NULL;
+}
+
+static bool answered(word line) {
+    word words[MOST_WORDS];
+    if (line_too_long(line)) return false;
+    size_t count = line_words(line, words, MOST_WORDS);
+    const form *f = form_named(words[0]);
+    return f && count == f->words + 1 && f->answer(f, words + 1);
+}
+
+int main(int count, char **text) {
+    word line;
+    line_limit(count > 1 ? strtoul(text[1], NULL, 10) : LONGEST);
+    while (line_next(&line)) {
+        if (!answered(line)) put_text("?");
+        put_end();
+        lent_settle();
+    }
+    return fflush(stdout) == 0 ? 0 : 1;
+}

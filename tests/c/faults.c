@@ -1,0 +1,82 @@
+// Faults planted on purpose: a driver linked with these in place of eight calls must stop, or answer otherwise than the second program.
+// The linker puts __wrap_CALL in the place of CALL (--wrap) and leaves the library's own as __real_CALL; FAULT in the environment
+// says which fault is made, and without it there is none.
+#include <stdlib.h>
+
+#include "../../include/dock.h"
+
+static int made(int fault) {
+    const char *word = getenv("FAULT");
+    return word && atoi(word) == fault;
+}
+
+static void flip(const uint8_t *byte) {
+    *(uint8_t *)byte ^= 1;
+}
+
+uint32_t __real_dock_ofb_encrypt(const uint8_t *, size_t, const uint8_t *, size_t, const uint8_t *, size_t, uint8_t *, size_t);
+uint32_t __real_dock_wrap(const uint8_t *, size_t, const uint8_t *, size_t, uint8_t *, size_t);
+uint32_t __real_dock_unwrap(const uint8_t *, size_t, const uint8_t *, size_t, uint8_t *, size_t);
+dock_check_answer __real_dock_check(const uint8_t *, size_t, const uint8_t *, size_t);
+dock_block_answer __real_dock_decrypt(const uint8_t *, size_t, dock_block);
+dock_block_answer __real_dock_encrypt(const uint8_t *, size_t, dock_block);
+void __real_cmac_feed(dock_record *, const uint8_t *, size_t);
+dock_turn_answer __real_dock_read_turn(dock_reader, const uint8_t *, size_t, size_t, uint8_t *, size_t);
+
+// 1: the byte behind the output.
+uint32_t __wrap_dock_ofb_encrypt(const uint8_t *key, size_t key_length, const uint8_t *iv, size_t iv_length,
+                                 const uint8_t *input, size_t input_length, uint8_t *output, size_t output_length) {
+    if (made(1)) flip(output + output_length);
+    return __real_dock_ofb_encrypt(key, key_length, iv, iv_length, input, input_length, output, output_length);
+}
+
+// 2: the byte before the output.
+uint32_t __wrap_dock_wrap(const uint8_t *key, size_t key_length, const uint8_t *data, size_t data_length,
+                          uint8_t *output, size_t output_length) {
+    if (made(2)) flip(output - 1);
+    return __real_dock_wrap(key, key_length, data, data_length, output, output_length);
+}
+
+// 3: a byte of a message, once its check is made.
+dock_check_answer __wrap_dock_check(const uint8_t *key, size_t key_length, const uint8_t *message, size_t length) {
+    dock_check_answer answer = __real_dock_check(key, key_length, message, length);
+    if (made(3) && length > 0) flip(message + length - 1);
+    return answer;
+}
+
+// 4: a byte of a key, once it is used.
+dock_block_answer __wrap_dock_decrypt(const uint8_t *key, size_t key_length, dock_block block) {
+    dock_block_answer answer = __real_dock_decrypt(key, key_length, block);
+    if (made(4) && key_length > 0) flip(key);
+    return answer;
+}
+
+// 5: one bit of an answer.
+dock_block_answer __wrap_dock_encrypt(const uint8_t *key, size_t key_length, dock_block block) {
+    dock_block_answer answer = __real_dock_encrypt(key, key_length, block);
+    if (made(5)) flip(&answer.block[15]);
+    return answer;
+}
+
+// 6: the byte behind a record.
+void __wrap_cmac_feed(dock_record *record, const uint8_t *part, size_t length) {
+    if (made(6)) flip((uint8_t *)record + sizeof *record);
+    __real_cmac_feed(record, part, length);
+}
+
+// 7: the output of a call that was refused because of the data.
+uint32_t __wrap_dock_unwrap(const uint8_t *key, size_t key_length, const uint8_t *data, size_t data_length,
+                            uint8_t *output, size_t output_length) {
+    uint32_t number = __real_dock_unwrap(key, key_length, data, data_length, output, output_length);
+    if (made(7) && number == DOCK_INITIAL_VALUE) flip(output);
+    return number;
+}
+
+// 8: the output past the blocks that were handled.
+dock_turn_answer __wrap_dock_read_turn(dock_reader reader, const uint8_t *blocks, size_t blocks_length, size_t asked,
+                                       uint8_t *output, size_t output_length) {
+    dock_turn_answer answer = __real_dock_read_turn(reader, blocks, blocks_length, asked, output, output_length);
+    size_t past = answer.accepted * DOCK_IMAGE_PAYLOAD;
+    if (made(8) && past < output_length) flip(output + past);
+    return answer;
+}
