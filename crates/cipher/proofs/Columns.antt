@@ -10,6 +10,7 @@ use Rattle.octets.proofs.Fill.{is-tabulate}
 use Rattle.octets.proofs.Words.{byte-lt, byte-xor, byte0-word, byte1-word, byte2-word, byte3-word}
 use Rattle.words.specs.Columns.{IsDiagonal, row, column, mixColumn, invMixColumn}
 use Rattle.words.proofs.Rotate.{row-lt}
+use Rattle.cipher.specs.Columns.{columns}
 use Rattle.cipher.specs.State.{aes, subBytes, shiftRows, invShiftRows, mixColumns, invMixColumns, addRoundKey}
 
 -- the bytes of four columns
@@ -18,6 +19,9 @@ four a b c d = bytesOf (a ∷ b ∷ c ∷ d ∷ [])
 
 pub same-four : {a b c d a' b' c' d' : ℕ} → a ≡ a' → b ≡ b' → c ≡ c' → d ≡ d' → four a b c d ≡ four a' b' c' d'
 same-four p q u v = rw (p, q, u, v)
+
+pub same-columns : {a b c d a' b' c' d' : ℕ} → a ≡ a' → b ≡ b' → c ≡ c' → d ≡ d' → columns a b c d ≡ columns a' b' c' d'
+same-columns p q u v = rw (p, q, u, v)
 
 bytes-word : (a b c d : ℕ) → a < 256 → b < 256 → c < 256 → d < 256 → (w : List ℕ) → bytesOf (word a b c d ∷ w) ≡ a ∷ b ∷ c ∷ d ∷ bytesOf w
 unfolding bytesOf

@@ -6,14 +6,17 @@ use Prim.Native.Nat.{ℕ}
 use native.Mathlib.Omega.{arith}
 use lib.Dec.{eqb}
 use lib.ListN.{length}
-use Rattle.octets.specs.Octets.{choose, Octets, tabulate}
+use Rattle.octets.specs.Octets.{choose, Octets}
 use Rattle.octets.specs.Blocks.{BlockCipher, Lawful}
 use Rattle.sbox.specs.Sbox.{sBox, invSBox, entry}
-use Rattle.sbox.proofs.Laws.{sBox-lt, invSBox-lt, invSBox-sBox, sBox-invSBox}
+use Rattle.words.specs.Columns.{mixedEntry, invMixedEntry}
+use Rattle.sbox.proofs.Laws.{entry-table, sBox-lt, invSBox-lt, invSBox-sBox, sBox-invSBox}
 use Rattle.schedule.specs.Schedule.{taken, refused, scheduleOf, keyNumber}
 use Rattle.schedule.specs.declared.Expanded.{Expanded}
 use Rattle.cipher.specs.State.{aes}
 use Rattle.cipher.specs.Cipher.{roundCount, encryptBlock, decryptBlock, blockCipher, aesOf}
+use Rattle.cipher.specs.Tables.{tableCipher, inverseWords}
+use Rattle.tables.specs.Tables.{forwardTable, inverseTable}
 use Rattle.cipher.proofs.State.{aes-regular}
 use Rattle.cipher.proofs.Undo.{Inverse, cipher-block, inv-cipher-block, decipher-cipher, cipher-decipher}
 use Rattle.cipher.proofs.Tables.{encrypt-table, decrypt-table}
@@ -46,10 +49,10 @@ pub record Agree (c d : BlockCipher) : Type 0 where
   pub enc-same : (x : List ℕ) → Octets 16 x → c .enc x ≡ d .enc x
   pub dec-same : (x : List ℕ) → Octets 16 x → c .dec x ≡ d .dec x
 
-pub lent-agrees : (w : List ℕ) (nr : ℕ) → Agree (blockCipher (entry (tabulate 256 sBox)) (entry (tabulate 256 invSBox)) w nr) (blockCipher sBox invSBox w nr)
+pub lent-agrees : (w : List ℕ) (nr : ℕ) → Agree (tableCipher forwardTable inverseTable w (inverseWords w nr) nr) (blockCipher sBox invSBox w nr)
 lent-agrees w nr = record {
-  enc-same = λ x o. encrypt-table sBox sBox-lt w nr o;
-  dec-same = λ x o. decrypt-table invSBox invSBox-lt w nr o;
+  enc-same = λ x o. encrypt-table sBox sBox-lt (entry forwardTable) (entry-table (mixedEntry sBox)) w nr o;
+  dec-same = λ x o. decrypt-table invSBox invSBox-lt (entry inverseTable) (entry-table (invMixedEntry invSBox)) w nr o;
 }
 
 -- under every key that is taken

@@ -1,7 +1,8 @@
 pub mod State
-pub mod Undo
-pub mod Tables
 pub mod Columns
 pub mod Steps
-pub mod Padding
+pub mod Back
+pub mod Undo
+pub mod Tables
 pub mod Lawful
+pub mod Padding

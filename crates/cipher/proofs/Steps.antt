@@ -9,6 +9,8 @@ use native.Mathlib.Omega.{arith}
 use borrow.Author.Tests.{eqb-true}
 use lib.Dec.{eqb}
 use Rattle.cipher.specs.State.{Shape}
+use Rattle.cipher.specs.declared.rounds.Columns.{Columns}
+use Rattle.cipher.specs.Tables.{keyed, looked, tableRounds}
 use Rattle.cipher.specs.Cipher.{oneRound, rounds, invRound, invRounds, roundCount}
 
 module _ (z : Shape) (sub : ℕ → ℕ) (w s : List ℕ) where
@@ -30,6 +32,16 @@ module _ (z : Shape) (sub : ℕ → ℕ) (w s : List ℕ) where
   unfolding invRounds
   inv-rounds-next zero h = absurd (not-suc-le-zero h)
   inv-rounds-next (suc n) h = rw (sub-one (suc n))
+
+module _ (t : ℕ → ℕ) (w : List ℕ) (s : Columns) where
+  pub table-none : s ≡ tableRounds t w 0 s
+  unfolding tableRounds
+  table-none = refl
+
+  pub table-next : (n : ℕ) → 0 < n → tableRounds t w n s ≡ keyed w n (looked t (tableRounds t w (n - 1) s))
+  unfolding tableRounds
+  table-next zero h = absurd (not-suc-le-zero h)
+  table-next (suc n) h = rw (sub-one (suc n))
 
 pub round-count : (n : ℕ) → roundCount n ≡ true → (0 < n) × (n < 15)
 round-count n = ten (eqb n 10) (eqb n 12) (eqb n 14) refl refl refl

@@ -1,3 +1,4 @@
 pub mod Columns
 pub mod State
 pub mod Cipher
+pub mod Tables

@@ -5,13 +5,17 @@ use crate::rounds::cipher;
 use crate::rounds::inv_cipher;
 use crate::rounds::load;
 use crate::rounds::store;
-use sbox::inv_table;
-use sbox::table;
 use schedule::KeyAnswer;
 use schedule::KeySchedule;
+use tables::forward_table;
+use tables::inverse_table;
+use words::inv_mix_column;
 ghost use mathlib.Core.Path.{_≡_};
+ghost use Prim.Native.Nat.{_<_};
+ghost use Rattle.octets.specs.Octets.{tabulate};
 ghost use Rattle.sbox.specs.Sbox.{entry};
-ghost use Rattle.cipher.specs.Cipher.{roundCount, encryptBlock, decryptBlock, encryptUnder, decryptUnder};
+ghost use Rattle.cipher.specs.Cipher.{roundCount, encryptUnder, decryptUnder};
+ghost use Rattle.cipher.specs.Tables.{tableEncrypt, tableDecrypt, inverseWord, inverseWords};
 
 // The answer for the key, and the block: zeros where the key was refused.
 pub struct Ciphered {
@@ -22,12 +26,12 @@ pub struct Ciphered {
 pub fn encrypt(key: &[u8], block: [u8; 16]) -> Ciphered
     ensures { λ r. ⌜ r ≡ encryptUnder (now (key .entry)) block ⌝ }
 {
-    let sbox = table();
-    let made = KeySchedule::with(&sbox, key);
+    let made = KeySchedule::new(key);
     let answer = made.answer;
     let schedule = made.schedule;
     let words = schedule.words;
-    let ciphertext = encrypt_block(&sbox, &words, schedule.rounds, block);
+    let table = forward_table();
+    let ciphertext = encrypt_block(&table, &words, schedule.rounds, block);
     Ciphered {
         answer,
         block: ciphertext,
@@ -41,36 +45,82 @@ pub fn decrypt(key: &[u8], block: [u8; 16]) -> Ciphered
     let answer = made.answer;
     let schedule = made.schedule;
     let words = schedule.words;
-    let inv = inv_table();
-    let plaintext = decrypt_block(&inv, &words, schedule.rounds, block);
+    let back = inverse_words(&words, schedule.rounds);
+    let table = inverse_table();
+    let plaintext = decrypt_block(&table, &back, schedule.rounds, block);
     Ciphered {
         answer,
         block: plaintext,
     }
 }
 
-// The block under a schedule, with the S-box lent, for callers that encrypt many.
+// The block under a schedule, with the forward table lent, for callers that encrypt many.
 pub fn encrypt_block(
-    sbox: &[u8; 256],
+    table: &[u32; 256],
     words: &[u32; 60],
     rounds: usize,
     block: [u8; 16],
 ) -> [u8; 16]
-    ensures { λ r. ⌜ r ≡ encryptBlock (entry (now (sbox .entry))) (now (words .entry)) rounds block ⌝ }
+    ensures { λ r. ⌜ r ≡ tableEncrypt (entry (now (table .entry))) (now (words .entry)) rounds block ⌝ }
 {
     if is_round_count(rounds) {
-        return store(cipher(sbox, words, rounds, load(block)));
+        return store(cipher(table, words, rounds, load(block)));
     }
     [0u8; 16]
 }
 
-pub fn decrypt_block(inv: &[u8; 256], words: &[u32; 60], rounds: usize, block: [u8; 16]) -> [u8; 16]
-    ensures { λ r. ⌜ r ≡ decryptBlock (entry (now (inv .entry))) (now (words .entry)) rounds block ⌝ }
+// The block under the schedule for the way back, with the inverse table lent.
+pub fn decrypt_block(
+    table: &[u32; 256],
+    words: &[u32; 60],
+    rounds: usize,
+    block: [u8; 16],
+) -> [u8; 16]
+    ensures { λ r. ⌜ r ≡ tableDecrypt (entry (now (table .entry))) (now (words .entry)) rounds block ⌝ }
 {
     if is_round_count(rounds) {
-        return store(inv_cipher(inv, words, rounds, load(block)));
+        return store(inv_cipher(table, words, rounds, load(block)));
     }
     [0u8; 16]
+}
+
+// The schedule for the way back, as FIPS 197, 5.3.5 has it: the round keys mixed back, so that lookups can mix the state before a key is added.
+pub fn inverse_words(words: &[u32; 60], rounds: usize) -> [u32; 60]
+    ensures { λ r. ⌜ r ≡ inverseWords (now (words .entry)) rounds ⌝ }
+{
+    if is_round_count(rounds) {
+        return turned_back(words, rounds);
+    }
+    [0u32; 60]
+}
+
+fn turned_back(words: &[u32; 60], rounds: usize) -> [u32; 60]
+    requires { ⌜ rounds < 15 ⌝ }
+    ensures { λ r. ⌜ r ≡ tabulate 60 (inverseWord (now (words .entry)) rounds) ⌝ }
+{
+    let mut back = [0u32; 60];
+    for i in 0..60 {
+        back[i] = inverse_word(words, rounds, i);
+    }
+    back
+}
+
+fn inverse_word(words: &[u32; 60], rounds: usize, i: usize) -> u32
+    requires { ⌜ (rounds < 15) × (i < 60) ⌝ }
+    ensures { λ r. ⌜ r ≡ inverseWord (now (words .entry)) rounds i ⌝ }
+{
+    let n = i / 4;
+    if rounds < n {
+        return 0;
+    }
+    let word = words[4 * (rounds - n) + (4 - i % 4) % 4];
+    if n == 0 {
+        return word;
+    }
+    if n == rounds {
+        return word;
+    }
+    inv_mix_column(word)
 }
 
 fn is_round_count(n: usize) -> bool

@@ -1,15 +1,14 @@
-// The rounds of FIPS 197 on a state of four columns, each a word.
-use words::inv_mix_column;
+// The rounds of FIPS 197 on a state of four columns, each a word, by lookups in a table of words.
 use words::join;
+use words::middles;
 use words::mix_column;
-use words::substitute;
+use words::spun;
 ghost use mathlib.Core.Path.{_≡_};
-ghost use Prim.Native.Nat.{_*_, _<_};
+ghost use Prim.Native.Nat.{_-_, _*_, _<_};
 ghost use Rattle.sbox.specs.Sbox.{entry};
-ghost use Rattle.cipher.specs.Columns.{blockOf};
-ghost use Rattle.cipher.specs.State.{aes, subBytes, shiftRows, invShiftRows, mixColumns, invMixColumns, addRoundKey};
-ghost use Rattle.cipher.specs.Cipher.{oneRound, invRound};
-ghost use Rattle.cipher.specs.Cipher as spec;
+ghost use Rattle.cipher.specs.Columns.{blockOf, columnsOf};
+ghost use Rattle.cipher.specs.Tables.{keyed, lookedLast, tableRounds, tableForth, tableBack, mixedEach};
+ghost use Rattle.cipher.specs.Tables as spec;
 
 pub struct Columns(pub u32, pub u32, pub u32, pub u32);
 
@@ -29,7 +28,7 @@ impl RoundKeyNumber {
 }
 
 pub fn load(block: [u8; 16]) -> Columns
-    ensures { λ r. ⌜ blockOf r ≡ block ⌝ }
+    ensures { λ r. ⌜ r ≡ columnsOf block ⌝ }
 {
     Columns(
         join(block[0], block[1], block[2], block[3]),
@@ -62,47 +61,39 @@ pub fn store(s: Columns) -> [u8; 16]
     ]
 }
 
-pub fn cipher(sbox: &[u8; 256], words: &[u32; 60], rounds: usize, s: Columns) -> Columns
+pub fn cipher(table: &[u32; 256], words: &[u32; 60], rounds: usize, s: Columns) -> Columns
     requires { ⌜ (0 < rounds) × (rounds < 15) ⌝ }
-    ensures { λ r. ⌜ blockOf r ≡ spec.cipher aes (entry (now (sbox .entry))) (now (words .entry)) rounds (blockOf s) ⌝ }
+    ensures { λ r. ⌜ r ≡ tableForth (entry (now (table .entry))) (now (words .entry)) rounds s ⌝ }
+{
+    let t = rounds_before(table, words, rounds, s);
+    add_round_key(words, RoundKeyNumber(rounds), looked_last(table, t))
+}
+
+// The same rounds over the inverse table and the schedule for the way back: with columns 1 and 3 exchanged the rows shift the other way.
+pub fn inv_cipher(table: &[u32; 256], words: &[u32; 60], rounds: usize, s: Columns) -> Columns
+    requires { ⌜ (0 < rounds) × (rounds < 15) ⌝ }
+    ensures { λ r. ⌜ r ≡ tableBack (entry (now (table .entry))) (now (words .entry)) rounds s ⌝ }
+{
+    let t = rounds_before(table, words, rounds, mirrored(s));
+    let u = mix_columns(looked(table, t));
+    mirrored(add_round_key(words, RoundKeyNumber(rounds), u))
+}
+
+// All rounds but the last.
+fn rounds_before(table: &[u32; 256], words: &[u32; 60], rounds: usize, s: Columns) -> Columns
+    requires { ⌜ (0 < rounds) × (rounds < 15) ⌝ }
+    ensures { λ r. ⌜ r ≡ tableRounds (entry (now (table .entry))) (now (words .entry)) (rounds - 1) (keyed (now (words .entry)) 0 s) ⌝ }
 {
     let mut t = add_round_key(words, RoundKeyNumber(0), s);
     for n in 1..rounds {
-        t = one_round(sbox, words, RoundKeyNumber(n), t);
+        t = add_round_key(words, RoundKeyNumber(n), looked(table, t));
     }
-    add_round_key(words, RoundKeyNumber(rounds), sub_shift(sbox, t))
-}
-
-pub fn inv_cipher(inv: &[u8; 256], words: &[u32; 60], rounds: usize, s: Columns) -> Columns
-    requires { ⌜ (0 < rounds) × (rounds < 15) ⌝ }
-    ensures { λ r. ⌜ blockOf r ≡ spec.invCipher aes (entry (now (inv .entry))) (now (words .entry)) rounds (blockOf s) ⌝ }
-{
-    let mut t = add_round_key(words, RoundKeyNumber(rounds), s);
-    let mut n = rounds - 1;
-    while 0 < n {
-        t = inv_round(inv, words, RoundKeyNumber(n), t);
-        n -= 1;
-    }
-    add_round_key(words, RoundKeyNumber(0), inv_sub_shift(inv, t))
-}
-
-fn one_round(sbox: &[u8; 256], words: &[u32; 60], n: RoundKeyNumber, s: Columns) -> Columns
-    requires { ⌜ n .0 < 15 ⌝ }
-    ensures { λ r. ⌜ blockOf r ≡ oneRound aes (entry (now (sbox .entry))) (now (words .entry)) (n .0) (blockOf s) ⌝ }
-{
-    add_round_key(words, n, mix_columns(sub_shift(sbox, s)))
-}
-
-fn inv_round(inv: &[u8; 256], words: &[u32; 60], n: RoundKeyNumber, s: Columns) -> Columns
-    requires { ⌜ n .0 < 15 ⌝ }
-    ensures { λ r. ⌜ blockOf r ≡ invRound aes (entry (now (inv .entry))) (now (words .entry)) (n .0) (blockOf s) ⌝ }
-{
-    inv_mix_columns(add_round_key(words, n, inv_sub_shift(inv, s)))
+    t
 }
 
 fn add_round_key(words: &[u32; 60], n: RoundKeyNumber, s: Columns) -> Columns
     requires { ⌜ n .0 < 15 ⌝ }
-    ensures { λ r. ⌜ blockOf r ≡ addRoundKey aes (now (words .entry)) (n .0) (blockOf s) ⌝ }
+    ensures { λ r. ⌜ r ≡ keyed (now (words .entry)) (n .0) s ⌝ }
 {
     let first = n.first_word();
     let i = first.0;
@@ -114,47 +105,43 @@ fn add_round_key(words: &[u32; 60], n: RoundKeyNumber, s: Columns) -> Columns
     )
 }
 
-// Each column takes its four bytes from the columns that the shift brings there, substituted on the way.
-fn sub_shift(sbox: &[u8; 256], s: Columns) -> Columns
-    ensures { λ r. ⌜ blockOf r ≡ shiftRows aes (subBytes (entry (now (sbox .entry))) (blockOf s)) ⌝ }
+// Each column takes its four bytes from the columns that the shift brings there, substituted and mixed on the way.
+fn looked(table: &[u32; 256], s: Columns) -> Columns
+    ensures { λ r. ⌜ r ≡ spec.looked (entry (now (table .entry))) s ⌝ }
 {
     Columns(
-        substitute(sbox, s.0, s.1, s.2, s.3),
-        substitute(sbox, s.1, s.2, s.3, s.0),
-        substitute(sbox, s.2, s.3, s.0, s.1),
-        substitute(sbox, s.3, s.0, s.1, s.2),
+        spun(table, s.0, s.1, s.2, s.3),
+        spun(table, s.1, s.2, s.3, s.0),
+        spun(table, s.2, s.3, s.0, s.1),
+        spun(table, s.3, s.0, s.1, s.2),
     )
 }
 
-fn inv_sub_shift(inv: &[u8; 256], s: Columns) -> Columns
-    ensures { λ r. ⌜ blockOf r ≡ subBytes (entry (now (inv .entry))) (invShiftRows aes (blockOf s)) ⌝ }
+// The same without the mixing.
+fn looked_last(table: &[u32; 256], s: Columns) -> Columns
+    ensures { λ r. ⌜ r ≡ lookedLast (entry (now (table .entry))) s ⌝ }
 {
     Columns(
-        substitute(inv, s.0, s.3, s.2, s.1),
-        substitute(inv, s.1, s.0, s.3, s.2),
-        substitute(inv, s.2, s.1, s.0, s.3),
-        substitute(inv, s.3, s.2, s.1, s.0),
+        middles(table, s.0, s.1, s.2, s.3),
+        middles(table, s.1, s.2, s.3, s.0),
+        middles(table, s.2, s.3, s.0, s.1),
+        middles(table, s.3, s.0, s.1, s.2),
     )
+}
+
+fn mirrored(s: Columns) -> Columns
+    ensures { λ r. ⌜ r ≡ spec.mirrored s ⌝ }
+{
+    Columns(s.0, s.3, s.2, s.1)
 }
 
 fn mix_columns(s: Columns) -> Columns
-    ensures { λ r. ⌜ blockOf r ≡ mixColumns aes (blockOf s) ⌝ }
+    ensures { λ r. ⌜ r ≡ mixedEach s ⌝ }
 {
     Columns(
         mix_column(s.0),
         mix_column(s.1),
         mix_column(s.2),
         mix_column(s.3),
-    )
-}
-
-fn inv_mix_columns(s: Columns) -> Columns
-    ensures { λ r. ⌜ blockOf r ≡ invMixColumns aes (blockOf s) ⌝ }
-{
-    Columns(
-        inv_mix_column(s.0),
-        inv_mix_column(s.1),
-        inv_mix_column(s.2),
-        inv_mix_column(s.3),
     )
 }

@@ -6,9 +6,10 @@ use Prim.Native.Nat.{ℕ}
 use lib.ListN.{replicate}
 use Rattle.sbox.specs.Sbox.{sBox}
 use Rattle.schedule.specs.Schedule.{scheduleOf}
-use Rattle.cipher.specs.Cipher.{roundCount, encryptBlock, blockCipher}
+use Rattle.cipher.specs.Cipher.{roundCount, encryptBlock}
+use Rattle.cipher.specs.Tables.{tableEncrypt}
 use Rattle.cmac.specs.Cmac.{ended, cmac}
-use Rattle.cmac.specs.Running.{takenIn, closed, standard, checkOf, recordOf, startOf, fedWith, closeOf, fedParts, joined}
+use Rattle.cmac.specs.Running.{takenIn, closed, lent, standard, checkOf, recordOf, startOf, fedWith, closeOf, fedParts, joined}
 use Rattle.cmac.specs.declared.Run.{Run}
 use Rattle.cmac.specs.declared.Record.{Record}
 use Rattle.cmac.proofs.Chain.{fed-taken, begun-taken, whole}
@@ -32,9 +33,13 @@ module _ (w : List ℕ) (nr : ℕ) where
   close-after s = whole (standard w nr) s
 
 -- under a number of rounds that no key gives
-pub cmac-zeros : (sub inv : ℕ → ℕ) (w : List ℕ) (nr : ℕ) (m : List ℕ) → roundCount nr ≡ false → cmac (blockCipher sub inv w nr) m ≡ replicate 16 0
+pub cmac-zeros : (w : List ℕ) (nr : ℕ) (m : List ℕ) → roundCount nr ≡ false → cmac (standard w nr) m ≡ replicate 16 0
 unfolding cmac ended encryptBlock
-cmac-zeros sub inv w nr m e = rw e
+cmac-zeros w nr m e = rw e
+
+pub lent-zeros : (table w : List ℕ) (nr : ℕ) (m : List ℕ) → roundCount nr ≡ false → cmac (lent table w nr) m ≡ replicate 16 0
+unfolding cmac ended tableEncrypt
+lent-zeros table w nr m e = rw e
 
 pub close-zeros : (r : Record) → roundCount (r .rounds) ≡ false → closeOf r ≡ replicate 16 0
 unfolding closeOf closed ended encryptBlock

@@ -1,22 +1,22 @@
--- Ciphers that agree on blocks give the same check, so the check through the table of the S-box is the check under AES. Assumes nothing.
+-- Ciphers that agree on blocks give the same check, so the check through the forward table is the check under AES. Assumes nothing.
 use mathlib.Core.Path.{_≡_, refl, ap, _∙_}
 use mathlib.Core.Bool.{Bool, true, false}
 use mathlib.Core.List.{List, _++_}
 use Prim.Native.Nat.{ℕ, zero, suc, _*_, _≤_}
 use native.Mathlib.Omega.{arith}
 use lib.ListN.{length, take, drop, replicate, length-take, length-drop}
-use Rattle.octets.specs.Octets.{choose, tabulate, Bytes, Octets}
+use Rattle.octets.specs.Octets.{choose, Bytes, Octets}
 use Rattle.octets.specs.Blocks.{_⊕_, BlockCipher}
 use Rattle.octets.proofs.Blocks.{⊕-octets, take-bytes, drop-bytes, append-bytes, take-octets}
-use Rattle.sbox.specs.Sbox.{sBox, entry}
+use Rattle.sbox.specs.Sbox.{sBox}
 use Rattle.sbox.proofs.Laws.{sBox-lt}
 use Rattle.schedule.specs.Schedule.{scheduleOf}
 use Rattle.schedule.specs.declared.Expanded.{Expanded}
-use Rattle.schedule.proofs.Laws.{schedule-table}
 use Rattle.cipher.specs.State.{aes}
 use Rattle.cipher.specs.Cipher.{roundCount, cipher, encryptBlock}
+use Rattle.tables.specs.Tables.{forwardTable}
 use Rattle.cipher.proofs.Undo.{cipher-block}
-use Rattle.cipher.proofs.Tables.{encrypt-table}
+use Rattle.cipher.proofs.Lawful.{lent-agrees}
 use Rattle.cmac.specs.Cmac.{doubled, key1, key2, last, earlier, chained, ended, cmac}
 use Rattle.cmac.specs.Running.{heldBytes, holding, takenIn, fed, closed, lent, standard, checkOf, runOf, recordOf, fedWith, closeOf}
 use Rattle.cmac.specs.declared.Run.{Run}
@@ -80,32 +80,32 @@ module _ (w : List ℕ) (nr : ℕ) where
       go true = cipher-block aes sBox sBox-lt w nr o
       go false = zeros-octets
 
-  pub table-same : (x : List ℕ) → Octets 16 x → lent (tabulate 256 sBox) w nr .enc x ≡ standard w nr .enc x
-  table-same x o = encrypt-table sBox sBox-lt w nr o
+  pub table-same : (x : List ℕ) → Octets 16 x → lent forwardTable w nr .enc x ≡ standard w nr .enc x
+  table-same = lent-agrees w nr .enc-same
 
--- the check through the table of the S-box is the check under AES
-pub cmac-table : (w : List ℕ) (nr : ℕ) (m : List ℕ) → Bytes m → cmac (lent (tabulate 256 sBox) w nr) m ≡ cmac (standard w nr) m
-cmac-table w nr m b = cmac-same (lent (tabulate 256 sBox) w nr) (standard w nr) (table-same w nr) (standard-block w nr) m b
+-- the check through the forward table is the check under AES
+pub cmac-table : (w : List ℕ) (nr : ℕ) (m : List ℕ) → Bytes m → cmac (lent forwardTable w nr) m ≡ cmac (standard w nr) m
+cmac-table w nr m b = cmac-same (lent forwardTable w nr) (standard w nr) (table-same w nr) (standard-block w nr) m b
 
-pub check-under : (key m : List ℕ) → Bytes m → (e : Expanded) (t r : List ℕ) → t ≡ tabulate 256 sBox → e ≡ scheduleOf (entry t) key
+pub check-under : (key m : List ℕ) → Bytes m → (e : Expanded) (t r : List ℕ) → t ≡ forwardTable → e ≡ scheduleOf sBox key
     → r ≡ cmac (lent t (e .schedule .words) (e .schedule .rounds)) m → _≡_ {A = Checked} (record { answer = e .answer; check = r }) (checkOf key m)
 unfolding checkOf
 check-under key m b e t r pt pe pr =
     let w = scheduleOf sBox key .schedule .words in
     let nr = scheduleOf sBox key .schedule .rounds in
-    rw (pr, pe, pt, schedule-table sBox key, cmac-table w nr m b)
+    rw (pr, pe, pt, cmac-table w nr m b)
 
-module _ (x : Record) (o : Octets 16 (x .chain)) (h : Octets 16 (x .held)) (t : List ℕ) (pt : t ≡ tabulate 256 sBox) where
+module _ (x : Record) (o : Octets 16 (x .chain)) (h : Octets 16 (x .held)) (t : List ℕ) (pt : t ≡ forwardTable) where
   pub fed-under : (part : List ℕ) → Bytes part → (n : Run) → n ≡ fed (lent t (x .words) (x .rounds)) (runOf x) part → recordOf (x .words) (x .rounds) n ≡ fedWith x part
   unfolding fedWith
   fed-under part b n pn =
       let w = x .words in
       let nr = x .rounds in
-      rw (pn, pt, fed-same (lent (tabulate 256 sBox) w nr) (standard w nr) (table-same w nr) (standard-block w nr) (runOf x) part o (h .bytes) b)
+      rw (pn, pt, fed-same (lent forwardTable w nr) (standard w nr) (table-same w nr) (standard-block w nr) (runOf x) part o (h .bytes) b)
 
   pub close-under : (r : List ℕ) → r ≡ closed (lent t (x .words) (x .rounds)) (runOf x) → r ≡ closeOf x
   unfolding closeOf
   close-under r pr =
       let w = x .words in
       let nr = x .rounds in
-      pr ∙ rw (pt, closed-same (lent (tabulate 256 sBox) w nr) (standard w nr) (table-same w nr) (standard-block w nr) (runOf x) o h)
+      pr ∙ rw (pt, closed-same (lent forwardTable w nr) (standard w nr) (table-same w nr) (standard-block w nr) (runOf x) o h)

@@ -5,10 +5,11 @@ use mathlib.Core.List.{List, [], _∷_, _++_}
 use lib.ListN.{length, take, drop, replicate}
 use Rattle.octets.specs.Octets.{padTo}
 use Rattle.octets.specs.Blocks.{BlockCipher}
-use Rattle.sbox.specs.Sbox.{sBox, invSBox, entry}
+use Rattle.sbox.specs.Sbox.{sBox, invSBox}
 use Rattle.schedule.specs.Schedule.{scheduleOf}
 use Rattle.schedule.specs.declared.Expanded.{Expanded}
 use Rattle.cipher.specs.Cipher.{blockCipher}
+use Rattle.cipher.specs.Tables.{oneTable}
 use Rattle.cmac.specs.Cmac.{earlier, chained, ended, cmac}
 use Rattle.cmac.specs.declared.Run.{Run}
 use Rattle.cmac.specs.declared.Record.{Record}
@@ -41,9 +42,9 @@ closed c r = ended c (r .chain) (heldBytes r)
 
 -- ---- the calls
 
--- encryption under a schedule through a lent table; decryption, which no check uses, is the standard's
+-- encryption under a schedule by lookups in a lent table; no check uses decryption
 abbrev pub lent : List ℕ → List ℕ → ℕ → BlockCipher
-lent table w nr = blockCipher (entry table) invSBox w nr
+lent table w nr = oneTable table w nr
 
 -- AES under a schedule
 abbrev pub standard : List ℕ → ℕ → BlockCipher

@@ -8,9 +8,9 @@ use crate::pieces::filled;
 use crate::subkeys::last;
 use blocks::xor;
 use cipher::encrypt_block;
-use sbox::table;
 use schedule::KeyAnswer;
 use schedule::KeySchedule;
+use tables::forward_table;
 ghost use mathlib.Core.Path.{_≡_};
 ghost use Prim.Native.Nat.{_-_};
 ghost use Rattle.cmac.specs.Cmac as spec;
@@ -48,12 +48,12 @@ pub struct Run {
 pub fn check(key: &[u8], message: &[u8]) -> Checked
     ensures { λ r. ⌜ r ≡ running.checkOf (now (key .entry)) (now (message .entry)) ⌝ }
 {
-    let sbox = table();
-    let made = KeySchedule::with(&sbox, key);
+    let made = KeySchedule::new(key);
     let answer = made.answer;
     let schedule = made.schedule;
     let words = schedule.words;
-    let mac = check_with(&sbox, &words, schedule.rounds, message);
+    let table = forward_table();
+    let mac = check_with(&table, &words, schedule.rounds, message);
     Checked { answer, check: mac }
 }
 
@@ -75,9 +75,9 @@ pub fn start(key: &[u8]) -> Started
 pub fn fed_with(record: Record, part: &[u8]) -> Record
     ensures { λ r. ⌜ r ≡ running.fedWith «record» (now (part .entry)) ⌝ }
 {
-    let sbox = table();
+    let table = forward_table();
     let words = record.words;
-    let run = run_of(record).fed(&sbox, &words, record.rounds, part);
+    let run = run_of(record).fed(&table, &words, record.rounds, part);
     record_of(words, record.rounds, run)
 }
 
@@ -93,18 +93,18 @@ pub extern "C" fn cmac_feed(record: &mut Record, part: &[u8])
 pub fn close(record: Record) -> [u8; 16]
     ensures { λ r. ⌜ r ≡ running.closeOf «record» ⌝ }
 {
-    let sbox = table();
+    let table = forward_table();
     let words = record.words;
-    run_of(record).closed(&sbox, &words, record.rounds)
+    run_of(record).closed(&table, &words, record.rounds)
 }
 
-// The check under a schedule, with the S-box lent, for callers that make many.
-pub fn check_with(sbox: &[u8; 256], words: &[u32; 60], rounds: usize, message: &[u8]) -> [u8; 16]
-    ensures { λ r. ⌜ r ≡ spec.cmac (running.lent (now (sbox .entry)) (now (words .entry)) rounds) (now (message .entry)) ⌝ }
+// The check under a schedule, with the forward table lent, for callers that make many.
+pub fn check_with(table: &[u32; 256], words: &[u32; 60], rounds: usize, message: &[u8]) -> [u8; 16]
+    ensures { λ r. ⌜ r ≡ spec.cmac (running.lent (now (table .entry)) (now (words .entry)) rounds) (now (message .entry)) ⌝ }
 {
     Run::new()
-        .fed(sbox, words, rounds, message)
-        .closed(sbox, words, rounds)
+        .fed(table, words, rounds, message)
+        .closed(table, words, rounds)
 }
 
 impl Run {
@@ -119,8 +119,8 @@ impl Run {
     }
 
     // A full piece goes into the chain only when a byte more comes.
-    pub fn fed(self, sbox: &[u8; 256], words: &[u32; 60], rounds: usize, part: &[u8]) -> Run
-        ensures { λ r. ⌜ r ≡ running.fed (running.lent (now (sbox .entry)) (now (words .entry)) rounds) self (now (part .entry)) ⌝ }
+    pub fn fed(self, table: &[u32; 256], words: &[u32; 60], rounds: usize, part: &[u8]) -> Run
+        ensures { λ r. ⌜ r ≡ running.fed (running.lent (now (table .entry)) (now (words .entry)) rounds) self (now (part .entry)) ⌝ }
     {
         let chain = self.chain;
         let held = self.held;
@@ -133,26 +133,32 @@ impl Run {
                 count: 16 - room + part.len(),
             };
         }
-        let next = encrypt_block(sbox, words, rounds, xor(chain, piece));
-        taken_in(sbox, words, rounds, next, &part[room..])
+        let next = encrypt_block(table, words, rounds, xor(chain, piece));
+        taken_in(table, words, rounds, next, &part[room..])
     }
 
-    pub fn closed(self, sbox: &[u8; 256], words: &[u32; 60], rounds: usize) -> [u8; 16]
-        ensures { λ r. ⌜ r ≡ running.closed (running.lent (now (sbox .entry)) (now (words .entry)) rounds) self ⌝ }
+    pub fn closed(self, table: &[u32; 256], words: &[u32; 60], rounds: usize) -> [u8; 16]
+        ensures { λ r. ⌜ r ≡ running.closed (running.lent (now (table .entry)) (now (words .entry)) rounds) self ⌝ }
     {
         let chain = self.chain;
         let held = self.held;
-        let end = last(sbox, words, rounds, held, self.count);
-        encrypt_block(sbox, words, rounds, xor(chain, end))
+        let end = last(table, words, rounds, held, self.count);
+        encrypt_block(table, words, rounds, xor(chain, end))
     }
 }
 
 // From a value of the chain, with nothing held.
-fn taken_in(sbox: &[u8; 256], words: &[u32; 60], rounds: usize, chain: [u8; 16], part: &[u8]) -> Run
-    ensures { λ r. ⌜ r ≡ running.takenIn (running.lent (now (sbox .entry)) (now (words .entry)) rounds) chain (now (part .entry)) ⌝ }
+fn taken_in(
+    table: &[u32; 256],
+    words: &[u32; 60],
+    rounds: usize,
+    chain: [u8; 16],
+    part: &[u8],
+) -> Run
+    ensures { λ r. ⌜ r ≡ running.takenIn (running.lent (now (table .entry)) (now (words .entry)) rounds) chain (now (part .entry)) ⌝ }
 {
     let n = earlier(part.len());
-    let after = chained(sbox, words, rounds, chain, n, part);
+    let after = chained(table, words, rounds, chain, n, part);
     let rest = &part[n * 16..];
     let held = filled([0u8; 16], 0, rest);
     Run {

@@ -23,7 +23,7 @@ pub fn earlier(length: usize) -> usize
 
 // The chain after n pieces.
 pub fn chained(
-    sbox: &[u8; 256],
+    table: &[u32; 256],
     words: &[u32; 60],
     rounds: usize,
     chain: [u8; 16],
@@ -31,11 +31,11 @@ pub fn chained(
     part: &[u8],
 ) -> [u8; 16]
     requires { ⌜ n * 16 ≤ length (now part) ⌝ }
-    ensures { λ r. ⌜ r ≡ spec.chained (running.lent (now (sbox .entry)) (now (words .entry)) rounds) chain n (now (part .entry)) ⌝ }
+    ensures { λ r. ⌜ r ≡ spec.chained (running.lent (now (table .entry)) (now (words .entry)) rounds) chain n (now (part .entry)) ⌝ }
 {
     let mut value = chain;
     for i in 0..n {
-        let next = encrypt_block(sbox, words, rounds, xor(value, load(part, i * 16)));
+        let next = encrypt_block(table, words, rounds, xor(value, load(part, i * 16)));
         value = next;
     }
     value

@@ -10,15 +10,15 @@ ghost use Rattle.cmac.specs.Running as running;
 
 // The last piece, of which this many bytes are held: a full one with K1, a shorter one padded and with K2.
 pub fn last(
-    sbox: &[u8; 256],
+    table: &[u32; 256],
     words: &[u32; 60],
     rounds: usize,
     held: [u8; 16],
     count: usize,
 ) -> [u8; 16]
-    ensures { λ r. ⌜ r ≡ spec.last (running.lent (now (sbox .entry)) (now (words .entry)) rounds) (take count held) ⌝ }
+    ensures { λ r. ⌜ r ≡ spec.last (running.lent (now (table .entry)) (now (words .entry)) rounds) (take count held) ⌝ }
 {
-    let key1 = doubled(encrypt_block(sbox, words, rounds, [0u8; 16]));
+    let key1 = doubled(encrypt_block(table, words, rounds, [0u8; 16]));
     let key2 = doubled(key1);
     if count < 16 {
         return xor(key2, filled(held, count, b"\x80"));

@@ -6,12 +6,13 @@ use Prim.Native.Nat.{ℕ, zero, suc, _-_, _*_, _%_, _≤_}
 use native.Mathlib.Omega.{arith}
 use lib.ListN.{length, take, drop, length-drop, replicate}
 use lib.Seq.{length-take-le}
-use Rattle.octets.specs.Octets.{Bytes, Octets, choose, padTo, tabulate}
+use Rattle.octets.specs.Octets.{Bytes, Octets, choose, padTo}
 use Rattle.octets.specs.Blocks.{BlockCipher, Lawful}
 use Rattle.octets.proofs.Fill.{length-padTo}
 use Rattle.octets.proofs.Blocks.{take-bytes, drop-bytes, append-bytes, zeros-bytes, take-octets}
-use Rattle.sbox.specs.Sbox.{sBox, invSBox}
 use Rattle.cipher.specs.Cipher.{roundCount}
+use Rattle.cipher.specs.Tables.{inverseWords}
+use Rattle.tables.specs.Tables.{forwardTable, inverseTable}
 use Rattle.cipher.proofs.Lawful.{Agree, lent-agrees, aes-lawful}
 use Rattle.blocks.specs.Blocks.{same}
 use Rattle.modes.specs.Modes.{moded}
@@ -75,9 +76,9 @@ module _ (c d : BlockCipher) (a : Agree c d) (l : Lawful 16 d) where
 
 -- ---- the tables of the standard
 
-module _ (t t' : List ℕ) (pt : t ≡ tabulate 256 sBox) (pi : t' ≡ tabulate 256 invSBox) where
-  both-agree : (w : List ℕ) (nr : ℕ) → Agree (lentBoth t t' w nr) (standard w nr)
-  both-agree w nr = rw (pt, pi) (lent-agrees w nr)
+module _ (t t' : List ℕ) (pt : t ≡ forwardTable) (pi : t' ≡ inverseTable) where
+  both-agree : (w v : List ℕ) (nr : ℕ) → v ≡ inverseWords w nr → Agree (lentBoth t t' w v nr) (standard w nr)
+  both-agree w v nr pv = rw (pt, pi, pv) (lent-agrees w nr)
 
   cmac-lent : (w : List ℕ) (nr : ℕ) (m : List ℕ) → Bytes m → cmac (lent t w nr) m ≡ cmac (standard w nr) m
   cmac-lent w nr m b = ap (λ (x : List ℕ). cmac (lent x w nr) m) pt ∙ cmac-table w nr m b
@@ -87,22 +88,29 @@ module _ (t t' : List ℕ) (pt : t ≡ tabulate 256 sBox) (pi : t' ≡ tabulate 
   checks-same w nr b bytes =
       ap (λ (x : List ℕ). same x (drop 496 b)) (cmac-lent w nr (take 496 b ++ []) (append-bytes (take 496 b) [] (take-bytes 496 b bytes) (λ k. omega arith)))
 
+  -- sealing needs the cipher one way only
+  front-forth : (w v : List ℕ) (nr : ℕ) (h : Head) (p : List ℕ) → front (lent t w nr) h p ≡ front (lentBoth t t' w v nr) h p
+  unfolding front
+  front-forth w v nr h p = refl
+
   -- the block that the writer seals
   pub sealed-same : (ew cw : List ℕ) (en cn : ℕ) → Lawful 16 (standard ew en) → (h : Head) (p : List ℕ) → length p ≤ 480 → Bytes p
-      → sealed (lentBoth t t' ew en) (lent t cw cn) [] h p ≡ sealed (standard ew en) (standard cw cn) [] h p
+      → sealed (lent t ew en) (lent t cw cn) [] h p ≡ sealed (standard ew en) (standard cw cn) [] h p
   unfolding sealed
   sealed-same ew cw en cn l h p lp bp =
-      let e = front-same (lentBoth t t' ew en) (standard ew en) (both-agree ew en) l h p lp bp in
+      let both = lentBoth t t' ew (inverseWords ew en) en in
+      let agree = both-agree ew (inverseWords ew en) en refl in
+      let e = front-forth ew (inverseWords ew en) en h p ∙ front-same both (standard ew en) agree l h p lp bp in
       let f = front (standard ew en) h p in
-      let b = front-bytes (lentBoth t t' ew en) (standard ew en) (both-agree ew en) l h p lp bp in
+      let b = front-bytes both (standard ew en) agree l h p lp bp in
       ap₂ (λ (x y : List ℕ). x ++ y) e
       (ap (λ (x : List ℕ). cmac (lent t cw cn) (x ++ [])) e ∙ cmac-lent cw cn (f ++ []) (append-bytes f [] b (λ k. omega arith)))
 
   -- ---- a reader's keys
 
-  module _ (ew cw : List ℕ) (n : Rounds) where
+  module _ (ew dw cw : List ℕ) (n : Rounds) (pd : dw ≡ inverseWords ew (n .enc)) where
     abbrev keys : Keys
-    keys = lentKeys t t' ew cw n
+    keys = lentKeys t t' ew dw cw n
 
     abbrev standardKeys : Keys
     standardKeys = record { enc = standard ew (n .enc); chk = standard cw (n .chk); usable = usable n }
@@ -120,7 +128,7 @@ module _ (t t' : List ℕ) (pt : t ≡ tabulate 256 sBox) (pi : t' ≡ tabulate 
 
     module _ (b : List ℕ) (size : length b ≡ 512) (bytes : Bytes b) (known : usable n ≡ true) where
       plain-same : opened (keys .enc) b ≡ opened (standardKeys .enc) b
-      plain-same = opened-same (keys .enc) (standardKeys .enc) (both-agree ew (n .enc)) (aes-lawful ew (n .enc) (enc-known known)) b size bytes
+      plain-same = opened-same (keys .enc) (standardKeys .enc) (both-agree ew dw (n .enc) pd) (aes-lawful ew (n .enc) (enc-known known)) b size bytes
 
       judge-same : (s : Progress) → judge keys s b ≡ judge standardKeys s b
       unfolding judge fillZero

@@ -2,18 +2,14 @@
 use mathlib.Core.Path.{_≡_, refl, sym, ap, ap₂, _∙_}
 use mathlib.Core.Bool.{Bool, true, false, _&&_, not}
 use mathlib.Core.List.{List, [], append-nil}
-use Prim.Native.Nat.{ℕ, suc, _+_, _-_, _≤_, _<_}
+use Prim.Native.Nat.{ℕ, suc, _+_, _≤_, _<_}
 use native.Mathlib.Omega.{arith}
 use borrow.Author.Tests.{eq-eqb, ne-eqb}
-use lib.ListN.{length, getD, take, drop, replicate, length-drop, drop-of-length-le}
+use lib.ListN.{length, getD, take, drop, length-drop, drop-of-length-le}
 use lib.Seq.{drop-cons, length-take-le, take-all}
 use Rattle.octets.specs.Blocks.{BlockCipher}
 use Rattle.blocks.specs.Blocks.{blockAt, same}
 use Rattle.blocks.proofs.Laws.{block-at}
-use Rattle.modes.specs.Modes.{moded, through}
-use Rattle.modes.specs.declared.Mode.the-variants.{Cbc}
-use Rattle.modes.specs.declared.Way.the-variants.{Decrypt}
-use Rattle.modes.proofs.Agree.{through-whole}
 use Rattle.cmac.specs.Cmac.{cmac}
 use Rattle.cipher.specs.Cipher.{roundCount}
 use Rattle.header.specs.Layout.{headOf}
@@ -41,13 +37,6 @@ zero-end s i h = rw (drop-of-length-le s {i = i} h)
 module _ (b : List ℕ) (size : length b ≡ 512) where
   pub body-length : length (take 480 (drop 16 b)) ≡ 480
   body-length = length-take-le 480 (drop 16 b) (omega (arith, length-drop 16 b))
-
-  pub opened-by : (c : BlockCipher) (first iv out : List ℕ) → first ≡ blockAt b 0 → iv ≡ c .enc first → out ≡ through c Cbc Decrypt iv (take (496 - 16) (drop 16 b)) (replicate 480 0) → out ≡ opened c b
-  unfolding opened
-  opened-by c first iv out ef ei eo =
-      let e : iv ≡ c .enc (take 16 b) = ei ∙ ap (c .enc) (ef ∙ block-at b 0 (omega arith)) in
-      eo ∙ through-whole c Cbc Decrypt iv (take 480 (drop 16 b)) (replicate 480 0) (rw body-length refl) body-length
-      ∙ ap (λ (x : List ℕ). moded c Cbc Decrypt x (take 480 (drop 16 b))) e
 
   pub checks-by : (c : BlockCipher) (made found : List ℕ) → made ≡ cmac c (take 496 b) → found ≡ blockAt b 496 → same made found ≡ checks c [] b
   unfolding checks
@@ -79,6 +68,6 @@ usable-both n t e f = rw (e, f)
 pub head-loaded : (b : List ℕ) → length b ≡ 512 → (first : List ℕ) (h : Head) → first ≡ blockAt b 0 → h ≡ headOf first → h ≡ headOf b
 head-loaded b size first h ef eh = eh ∙ ap headOf (ef ∙ block-at b 0 (omega arith)) ∙ head-of-first b
 
-pub fill-by : (c : BlockCipher) (b : List ℕ) (h : Head) → h ≡ headOf b → (plain : List ℕ) → plain ≡ opened c b → allZero (drop (h .len) plain) ≡ fillZero c b
+pub fill-by : (c : BlockCipher) (b : List ℕ) (h : Head) → h ≡ headOf b → allZero (drop (h .len) (opened c b)) ≡ fillZero c b
 unfolding fillZero
-fill-by c b h eh plain ep = rw (eh, ep)
+fill-by c b h eh = rw eh

@@ -9,12 +9,13 @@ use denote.Enum.Declared.{tagOf}
 use borrow.Author.Tests.{eqb-true, ltb-false, leb-true}
 use lib.Dec.{eqb, ltb, leb}
 use lib.ListN.{length}
-use Rattle.octets.specs.Octets.{Bytes, choose, tabulate}
-use Rattle.sbox.specs.Sbox.{sBox, invSBox, entry}
+use Rattle.octets.specs.Octets.{Bytes, choose}
+use Rattle.sbox.specs.Sbox.{sBox}
 use Rattle.schedule.specs.Schedule.{scheduleOf, keyNumber}
 use Rattle.schedule.specs.declared.Expanded.{Expanded}
 use Rattle.schedule.specs.declared.KeyAnswer.the-variants.{Taken, KeyLength}
-use Rattle.schedule.proofs.Laws.{schedule-table}
+use Rattle.cipher.specs.Tables.{inverseWords}
+use Rattle.tables.specs.Tables.{forwardTable, inverseTable}
 use Rattle.cipher.proofs.Lawful.{key-lawful}
 use Rattle.modes.specs.Modes.{over}
 use Rattle.cmac.specs.Running.{lent}
@@ -22,7 +23,7 @@ use Rattle.header.specs.Rules.{countFits, lengthFits}
 use Rattle.image.specs.Sealed.{sealed}
 use Rattle.image.specs.Turn.{Reading, ran, cut}
 use Rattle.image.specs.Calls.{bothTaken, writeRuled, writeAnswer, headFor, writeOutput, noSchedule, startWith, startOf, keysOf, handled, whole, turned, turnOf}
-use Rattle.image.specs.Lent.{lentBoth, lentKeys, ranOf}
+use Rattle.image.specs.Lent.{lentKeys, ranOf}
 use Rattle.image.specs.declared.WriteAnswer.{WriteAnswer}
 use Rattle.image.specs.declared.WriteAnswer.the-variants.{Written, WriteKey, WriteCount, WriteNumber, WriteLength, WriteRoom}
 use Rattle.image.specs.declared.Reader.{Reader}
@@ -66,39 +67,30 @@ module _ (r : Reader) (given : List ℕ) (asked : ℕ) (out : List ℕ) where
 
 -- ---- a turn over the tables that the call makes
 
-module _ (r : Reader) (given : List ℕ) (k : ℕ) (t t' : List ℕ) (pt : t ≡ tabulate 256 sBox) (pi : t' ≡ tabulate 256 invSBox) (h : k * 512 ≤ length given) (b : Bytes given) where
+module _ (r : Reader) (given : List ℕ) (k : ℕ) (t t' v : List ℕ) (pt : t ≡ forwardTable) (pi : t' ≡ inverseTable) (pv : v ≡ inverseWords (r .enc .words) (r .enc .rounds)) (h : k * 512 ≤ length given) (b : Bytes given) where
   reading : Reading
-  reading = ran (lentKeys t t' (r .enc .words) (r .chk .words) (record { enc = r .enc .rounds; chk = r .chk .rounds })) (r .progress) (cut k given)
+  reading = ran (lentKeys t t' (r .enc .words) v (r .chk .words) (record { enc = r .enc .rounds; chk = r .chk .rounds })) (r .progress) (cut k given)
 
   reading-is : reading ≡ ran (keysOf r) (r .progress) (cut k given)
   unfolding reading
-  reading-is = ran-same t t' pt pi (r .enc .words) (r .chk .words) (record { enc = r .enc .rounds; chk = r .chk .rounds }) k (r .progress) given h b
+  reading-is = ran-same t t' pt pi (r .enc .words) v (r .chk .words) (record { enc = r .enc .rounds; chk = r .chk .rounds }) pv k (r .progress) given h b
 
   pub turned-by : (x : Ran)
-      → x ≡ ranOf (ran (lentKeys t t' (r .enc .words) (r .chk .words) (record { enc = r .enc .rounds; chk = r .chk .rounds })) (r .progress) (cut k given))
+      → x ≡ ranOf (ran (lentKeys t t' (r .enc .words) v (r .chk .words) (record { enc = r .enc .rounds; chk = r .chk .rounds })) (r .progress) (cut k given))
       → _≡_ {A = Turn} (record { reader = record { enc = r .enc; chk = r .chk; progress = x .progress }; accepted = x .accepted; bytes = x .bytes; stop = x .stop })
       (turned r (ran (keysOf r) (r .progress) (cut k given)))
   unfolding reading
   turned-by x ex = rw ex (ap (turned r) reading-is)
 
   pub handed-by : (out o : List ℕ)
-      → o ≡ over (ran (lentKeys t t' (r .enc .words) (r .chk .words) (record { enc = r .enc .rounds; chk = r .chk .rounds })) (r .progress) (cut k given) .out) out
+      → o ≡ over (ran (lentKeys t t' (r .enc .words) v (r .chk .words) (record { enc = r .enc .rounds; chk = r .chk .rounds })) (r .progress) (cut k given) .out) out
       → o ≡ over (ran (keysOf r) (r .progress) (cut k given) .out) out
   unfolding reading
   handed-by out o eo = eo ∙ ap (λ (x : Reading). over (x .out) out) reading-is
 
 -- ---- both keys
 
-module _ (ekey ckey t : List ℕ) (e c : Expanded) (pt : t ≡ tabulate 256 sBox) (pe : e ≡ scheduleOf (entry t) ekey) (pc : c ≡ scheduleOf (entry t) ckey) where
-  schedule-is : (key : List ℕ) (x : Expanded) → x ≡ scheduleOf (entry t) key → x ≡ scheduleOf sBox key
-  schedule-is key x px = px ∙ ap (λ (y : List ℕ). scheduleOf (entry y) key) pt ∙ schedule-table sBox key
-
-  enc-is : e ≡ scheduleOf sBox ekey
-  enc-is = schedule-is ekey e pe
-
-  chk-is : c ≡ scheduleOf sBox ckey
-  chk-is = schedule-is ckey c pc
-
+module _ (ekey ckey : List ℕ) (e c : Expanded) (enc-is : e ≡ scheduleOf sBox ekey) (chk-is : c ≡ scheduleOf sBox ckey) where
   pub start-taken : (x : ReadStarted) → bothTaken e c ≡ true → x ≡ startWith Taken (e .schedule) (c .schedule) → x ≡ startOf ekey ckey
   unfolding startOf
   start-taken x b ex = ex ∙ sym (rw (← enc-is, ← chk-is, b))
@@ -153,15 +145,15 @@ module _ (ekey ckey t : List ℕ) (e c : Expanded) (pt : t ≡ tabulate 256 sBox
         first true y z = refl
         first false y z = z
 
-    pub written-by : (release : ℕ) (t' o : List ℕ) → t' ≡ tabulate 256 invSBox → Bytes payload → a ≡ Written
-        → o ≡ over (sealed (lentBoth t t' (e .schedule .words) (e .schedule .rounds)) (lent t (c .schedule .words) (c .schedule .rounds)) [] (headFor number count release (length payload)) payload) out
+    pub written-by : (release : ℕ) (t o : List ℕ) → t ≡ forwardTable → Bytes payload → a ≡ Written
+        → o ≡ over (sealed (lent t (e .schedule .words) (e .schedule .rounds)) (lent t (c .schedule .words) (c .schedule .rounds)) [] (headFor number count release (length payload)) payload) out
         → o ≡ writeOutput a ekey ckey number count release payload out
-    written-by release t' o pi bp q po =
+    written-by release t o pt bp q po =
         let h = headFor number count release (length payload) in
         let x = scheduleOf sBox ekey .schedule in
         let y = scheduleOf sBox ckey .schedule in
         po ∙ rw (q, enc-is, chk-is)
-        (ap (λ (b : List ℕ). over b out) (sealed-same t t' pt pi (x .words) (y .words) (x .rounds) (y .rounds) (key-lawful ekey (enc-taken q)) h payload (passed q .len) bp))
+        (ap (λ (b : List ℕ). over b out) (sealed-same t inverseTable pt refl (x .words) (y .words) (x .rounds) (y .rounds) (key-lawful ekey (enc-taken q)) h payload (passed q .len) bp))
 
 -- an answer that is not the first case leaves the output as it was
 pub write-kept : (a : WriteAnswer) (ekey ckey : List ℕ) (number count release : ℕ) (payload out : List ℕ) → OneOf (1 ∷ 2 ∷ 3 ∷ 4 ∷ 5 ∷ []) (tagOf the-type a)

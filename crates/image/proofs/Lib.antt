@@ -1,4 +1,5 @@
 pub mod Bytes
+pub mod Opening
 pub mod Judged
 pub mod Agree
 pub mod Calls

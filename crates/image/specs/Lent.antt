@@ -4,8 +4,8 @@ use mathlib.Core.Bool.{Bool, _&&_}
 use mathlib.Core.List.{List}
 use lib.Seq.{paste}
 use Rattle.octets.specs.Blocks.{BlockCipher}
-use Rattle.sbox.specs.Sbox.{entry}
-use Rattle.cipher.specs.Cipher.{roundCount, blockCipher}
+use Rattle.cipher.specs.Cipher.{roundCount}
+use Rattle.cipher.specs.Tables.{tableCipher}
 use Rattle.cmac.specs.Running.{lent}
 use Rattle.header.specs.Layout.{bodySize, headOf}
 use Rattle.header.specs.declared.Progress.{Progress}
@@ -17,17 +17,17 @@ use Rattle.image.specs.declared.Rounds.{Rounds}
 use Rattle.image.specs.declared.turns.Took.{Took}
 use Rattle.image.specs.declared.turns.Ran.{Ran}
 
--- both ways through lent tables
-abbrev pub lentBoth : (table inv words : List ℕ) (rounds : ℕ) → BlockCipher
-lentBoth table inv words rounds = blockCipher (entry table) (entry inv) words rounds
+-- both ways through lent tables and schedules
+abbrev pub lentBoth : (forth back ewords dwords : List ℕ) (rounds : ℕ) → BlockCipher
+lentBoth = tableCipher
 
 abbrev pub usable : Rounds → Bool
 usable n = roundCount (n .enc) && roundCount (n .chk)
 
-abbrev pub lentKeys : (table inv ewords cwords : List ℕ) → Rounds → Keys
-lentKeys table inv ewords cwords n = record {
-  enc = lentBoth table inv ewords (n .enc);
-  chk = lent table cwords (n .chk);
+abbrev pub lentKeys : (forth back ewords dwords cwords : List ℕ) → Rounds → Keys
+lentKeys forth back ewords dwords cwords n = record {
+  enc = lentBoth forth back ewords dwords (n .enc);
+  chk = lent forth cwords (n .chk);
   usable = usable n;
 }
 

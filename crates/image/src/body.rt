@@ -13,7 +13,7 @@ ghost use mathlib.Core.Path.{_≡_};
 ghost use mathlib.Core.Bool.{_&&_};
 ghost use mathlib.Core.List.{[]};
 ghost use Prim.Native.Nat.{_+_, _≤_};
-ghost use lib.ListN.{length, drop};
+ghost use lib.ListN.{length};
 ghost use lib.Seq.{paste};
 ghost use Rattle.octets.specs.Octets.{padTo};
 ghost use Rattle.cipher.specs.Cipher.{roundCount};
@@ -22,37 +22,37 @@ ghost use Rattle.modes.specs.Modes.{over};
 ghost use Rattle.image.specs.Sealed as spec;
 ghost use Rattle.image.specs.Lent.{lentBoth, usable};
 
-// The decrypted bytes, in memory of the reader's own.
-pub fn opened(
-    sbox: &[u8; 256],
-    inv: &[u8; 256],
-    words: &[u32; 60],
+// Puts the decrypted bytes into the output, from a place on. The IV is an encrypted header, so both ways of the cipher are needed.
+pub fn open_into(
+    forth: &[u32; 256],
+    back: &[u32; 256],
+    ewords: &[u32; 60],
+    dwords: &[u32; 60],
     rounds: usize,
     block: &[u8],
-) -> [u8; 480]
-    requires { ⌜ length (now block) ≡ 512 ⌝ }
-    ensures { λ r. ⌜ r ≡ spec.opened (lentBoth (now (sbox .entry)) (now (inv .entry)) (now (words .entry)) rounds) (now (block .entry)) ⌝ }
+    output: &mut [u8],
+    at: usize,
+)
+    requires { ⌜ (length (now block) ≡ 512) × (at + 480 ≤ length (now output)) ⌝ }
+    ensures { λ _. ⌜ now (output .exit) ≡ paste (now (output .entry)) at (spec.opened (lentBoth (now (forth .entry)) (now (back .entry)) (now (ewords .entry)) (now (dwords .entry)) rounds) (now (block .entry))) 480 ⌝ }
 {
-    let iv = encrypt_block(sbox, words, rounds, load(block, 0));
-    let mut plain = [0u8; 480];
+    let iv = encrypt_block(forth, ewords, rounds, load(block, 0));
     modes::run(
-        sbox,
-        inv,
-        words,
+        back,
+        dwords,
         rounds,
         Mode::Cbc,
         Way::Decrypt,
         iv,
         &block[16..496],
-        &mut plain,
+        &mut output[at..at + 480],
     );
-    plain
 }
 
 // Whether the block carries its check, all 16 bytes. Under a schedule that no key gave, no check is right.
-pub fn check_holds(sbox: &[u8; 256], words: &[u32; 60], rounds: Rounds, block: &[u8]) -> bool
+pub fn check_holds(forth: &[u32; 256], words: &[u32; 60], rounds: Rounds, block: &[u8]) -> bool
     requires { ⌜ length (now block) ≡ 512 ⌝ }
-    ensures { λ r. ⌜ r ≡ usable rounds && spec.checks (lent (now (sbox .entry)) (now (words .entry)) (rounds .chk)) [] (now (block .entry)) ⌝ }
+    ensures { λ r. ⌜ r ≡ usable rounds && spec.checks (lent (now (forth .entry)) (now (words .entry)) (rounds .chk)) [] (now (block .entry)) ⌝ }
 {
     if !known(rounds.enc) {
         return false;
@@ -60,7 +60,7 @@ pub fn check_holds(sbox: &[u8; 256], words: &[u32; 60], rounds: Rounds, block: &
     if !known(rounds.chk) {
         return false;
     }
-    let made = check_with(sbox, words, rounds.chk, &block[0..496]);
+    let made = check_with(forth, words, rounds.chk, &block[0..496]);
     equal(made, load(block, 496))
 }
 
@@ -77,30 +77,6 @@ fn known(rounds: usize) -> bool
     rounds == 14
 }
 
-// Whether what follows the payload is zero.
-pub fn zero_from(plain: &[u8], len: usize) -> bool
-    requires { ⌜ length (now plain) ≡ 480 ⌝ }
-    ensures { λ r. ⌜ r ≡ spec.allZero (drop len (now (plain .entry))) ⌝ }
-{
-    let mut i = len;
-    while i < 480 {
-        if plain[i] != 0 {
-            return false;
-        }
-        i += 1;
-    }
-    true
-}
-
-pub fn put(plain: &[u8], output: &mut [u8], at: usize)
-    requires { ⌜ (length (now plain) ≡ 480) × (at + 480 ≤ length (now output)) ⌝ }
-    ensures { λ _. ⌜ now (output .exit) ≡ paste (now (output .entry)) at (now (plain .entry)) 480 ⌝ }
-{
-    for i in 0..480 {
-        output[at + i] = plain[i];
-    }
-}
-
 // The payload, then zeros.
 fn filled(payload: &[u8]) -> [u8; 480]
     requires { ⌜ length (now payload) ≤ 480 ⌝ }
@@ -115,8 +91,7 @@ fn filled(payload: &[u8]) -> [u8; 480]
 
 // Writes the block with this header and payload into the first 512 bytes of the output.
 pub fn seal(
-    sbox: &[u8; 256],
-    inv: &[u8; 256],
+    forth: &[u32; 256],
     ewords: &[u32; 60],
     cwords: &[u32; 60],
     rounds: Rounds,
@@ -125,15 +100,14 @@ pub fn seal(
     output: &mut [u8],
 )
     requires { ⌜ (length (now payload) ≤ 480) × (512 ≤ length (now output)) ⌝ }
-    ensures { λ _. ⌜ now (output .exit) ≡ over (spec.sealed (lentBoth (now (sbox .entry)) (now (inv .entry)) (now (ewords .entry)) (rounds .enc)) (lent (now (sbox .entry)) (now (cwords .entry)) (rounds .chk)) [] head (now (payload .entry))) (now (output .entry)) ⌝ }
+    ensures { λ _. ⌜ now (output .exit) ≡ over (spec.sealed (lent (now (forth .entry)) (now (ewords .entry)) (rounds .enc)) (lent (now (forth .entry)) (now (cwords .entry)) (rounds .chk)) [] head (now (payload .entry))) (now (output .entry)) ⌝ }
 {
     let first = head_bytes(head);
-    let iv = encrypt_block(sbox, ewords, rounds.enc, first);
+    let iv = encrypt_block(forth, ewords, rounds.enc, first);
     let plain = filled(payload);
     store(output, 0, first);
     modes::run(
-        sbox,
-        inv,
+        forth,
         ewords,
         rounds.enc,
         Mode::Cbc,
@@ -142,6 +116,6 @@ pub fn seal(
         &plain,
         &mut output[16..496],
     );
-    let made = check_with(sbox, cwords, rounds.chk, &output[0..496]);
+    let made = check_with(forth, cwords, rounds.chk, &output[0..496]);
     store(output, 496, made);
 }

@@ -1,24 +1,27 @@
 // Release images: a writer of blocks, and a reader that takes them in turns.
 mod body;
+mod fill;
 mod turns;
 
 use crate::body::seal;
 use crate::turns::run;
+use cipher::inverse_words;
 use header::Head;
 use header::Progress;
 use header::Reason;
 use header::count_fits;
 use header::length_fits;
-use sbox::inv_table;
-use sbox::table;
 use schedule::KeyAnswer;
 use schedule::KeySchedule;
+use tables::forward_table;
+use tables::inverse_table;
 ghost use mathlib.Core.Path.{_≡_};
 ghost use mathlib.Core.Bool.{_&&_};
 ghost use Prim.Native.Nat.{_*_, _≤_, min};
 ghost use lib.Dec.{eqb, ltb, leb};
 ghost use lib.ListN.{length};
 ghost use Rattle.schedule.specs.Schedule.{keyNumber};
+ghost use Rattle.cipher.specs.Tables.{inverseWords};
 ghost use Rattle.modes.specs.Modes.{over};
 ghost use Rattle.image.specs.Turn.{ran, cut};
 ghost use Rattle.image.specs.Calls as spec;
@@ -87,9 +90,8 @@ pub fn write(
     ensures answer { λ r. ⌜ r ≡ spec.writeAnswer (now (ekey .entry)) (now (ckey .entry)) number count (now (payload .entry)) (now (output .entry)) ⌝ }
     ensures written { λ r. ⌜ now (output .exit) ≡ spec.writeOutput r (now (ekey .entry)) (now (ckey .entry)) number count release (now (payload .entry)) (now (output .entry)) ⌝ }
 {
-    let sbox = table();
-    let made_e = KeySchedule::with(&sbox, ekey);
-    let made_c = KeySchedule::with(&sbox, ckey);
+    let made_e = KeySchedule::new(ekey);
+    let made_c = KeySchedule::new(ckey);
     let eanswer = made_e.answer;
     let canswer = made_c.answer;
     let keys = both_taken(eanswer, canswer);
@@ -97,7 +99,7 @@ pub fn write(
     let WriteAnswer::Written = answer else {
         return answer;
     };
-    let inv = inv_table();
+    let forth = forward_table();
     let enc = made_e.schedule;
     let chk = made_c.schedule;
     let ewords = enc.words;
@@ -113,7 +115,7 @@ pub fn write(
         len: payload.len() as u16,
         reserved: 0,
     };
-    seal(&sbox, &inv, &ewords, &cwords, rounds, head, payload, output);
+    seal(&forth, &ewords, &cwords, rounds, head, payload, output);
     answer
 }
 
@@ -121,9 +123,8 @@ pub fn write(
 pub fn read_start(ekey: &[u8], ckey: &[u8]) -> ReadStarted
     ensures { λ r. ⌜ r ≡ spec.startOf (now (ekey .entry)) (now (ckey .entry)) ⌝ }
 {
-    let sbox = table();
-    let made_e = KeySchedule::with(&sbox, ekey);
-    let made_c = KeySchedule::with(&sbox, ckey);
+    let made_e = KeySchedule::new(ekey);
+    let made_c = KeySchedule::new(ckey);
     let eanswer = made_e.answer;
     let canswer = made_c.answer;
     let enc = made_e.schedule;
@@ -251,10 +252,11 @@ fn turned(reader: Reader, blocks: &[u8], k: usize, output: &mut [u8]) -> Turn
     ensures answer { λ r. ⌜ r ≡ spec.turned reader (ran (spec.keysOf reader) (reader .progress) (cut k (now (blocks .entry)))) ⌝ }
     ensures handed { λ _. ⌜ now (output .exit) ≡ over (ran (spec.keysOf reader) (reader .progress) (cut k (now (blocks .entry))) .out) (now (output .entry)) ⌝ }
 {
-    let sbox = table();
-    let inv = inv_table();
     let enc = reader.enc;
     let chk = reader.chk;
+    let dwords = words_back(enc);
+    let forth = forward_table();
+    let back = inverse_table();
     let ewords = enc.words;
     let cwords = chk.words;
     let rounds = Rounds {
@@ -262,9 +264,10 @@ fn turned(reader: Reader, blocks: &[u8], k: usize, output: &mut [u8]) -> Turn
         chk: chk.rounds,
     };
     let done = run(
-        &sbox,
-        &inv,
+        &forth,
+        &back,
         &ewords,
+        &dwords,
         &cwords,
         rounds,
         reader.progress,
@@ -280,4 +283,12 @@ fn turned(reader: Reader, blocks: &[u8], k: usize, output: &mut [u8]) -> Turn
         bytes: done.bytes,
         stop,
     }
+}
+
+// The schedule for the way back. What it takes to make it is given up before the tables are laid out.
+fn words_back(schedule: KeySchedule) -> [u32; 60]
+    ensures { λ r. ⌜ r ≡ inverseWords (schedule .words) (schedule .rounds) ⌝ }
+{
+    let words = schedule.words;
+    inverse_words(&words, schedule.rounds)
 }

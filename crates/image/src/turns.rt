@@ -2,9 +2,8 @@
 use crate::Rounds;
 use crate::Stop;
 use crate::body::check_holds;
-use crate::body::opened;
-use crate::body::put;
-use crate::body::zero_from;
+use crate::body::open_into;
+use crate::fill::fill_is_zero;
 use blocks::load;
 use header::Head;
 use header::Progress;
@@ -37,11 +36,12 @@ pub struct Ran {
     pub stop: Stop,
 }
 
-// Judges a block, and puts its decrypted bytes into the output where it is accepted: of a refused block nothing gets there.
+// Judges a block, and decrypts it into the output once it is accepted: of a refused block nothing gets there.
 fn read_block(
-    sbox: &[u8; 256],
-    inv: &[u8; 256],
+    forth: &[u32; 256],
+    back: &[u32; 256],
     ewords: &[u32; 60],
+    dwords: &[u32; 60],
     cwords: &[u32; 60],
     rounds: Rounds,
     progress: Progress,
@@ -50,14 +50,14 @@ fn read_block(
     at: usize,
 ) -> Verdict
     requires { ⌜ (length (now block) ≡ 512) × (at + 480 ≤ length (now output)) ⌝ }
-    ensures judged { λ r. ⌜ r ≡ judge (lentKeys (now (sbox .entry)) (now (inv .entry)) (now (ewords .entry)) (now (cwords .entry)) rounds) progress (now (block .entry)) ⌝ }
-    ensures handed { λ r. ⌜ now (output .exit) ≡ outAfter r (sealed.opened (lentBoth (now (sbox .entry)) (now (inv .entry)) (now (ewords .entry)) (rounds .enc)) (now (block .entry))) at (now (output .entry)) ⌝ }
-    ensures sized { λ r. ⌜ (r ≡ Accepted → length (sealed.opened (lentBoth (now (sbox .entry)) (now (inv .entry)) (now (ewords .entry)) (rounds .enc)) (now (block .entry))) ≡ 480) ⌝ }
+    ensures judged { λ r. ⌜ r ≡ judge (lentKeys (now (forth .entry)) (now (back .entry)) (now (ewords .entry)) (now (dwords .entry)) (now (cwords .entry)) rounds) progress (now (block .entry)) ⌝ }
+    ensures handed { λ r. ⌜ now (output .exit) ≡ outAfter r (sealed.opened (lentBoth (now (forth .entry)) (now (back .entry)) (now (ewords .entry)) (now (dwords .entry)) (rounds .enc)) (now (block .entry))) at (now (output .entry)) ⌝ }
+    ensures sized { λ r. ⌜ (r ≡ Accepted → length (sealed.opened (lentBoth (now (forth .entry)) (now (back .entry)) (now (ewords .entry)) (now (dwords .entry)) (rounds .enc)) (now (block .entry))) ≡ 480) ⌝ }
 {
     if header::complete(progress) {
         return Verdict::Refused(Reason::AfterLast);
     }
-    if !check_holds(sbox, cwords, rounds, block) {
+    if !check_holds(forth, cwords, rounds, block) {
         return Verdict::Refused(Reason::CheckWrong);
     }
     let head = head_of(load(block, 0));
@@ -65,11 +65,11 @@ fn read_block(
     let Verdict::Accepted = verdict else {
         return verdict;
     };
-    let plain = opened(sbox, inv, ewords, rounds.enc, block);
-    if !zero_from(&plain, head.len as usize) {
+    let len = head.len as usize;
+    if !fill_is_zero(forth, back, ewords, dwords, rounds.enc, block, len) {
         return Verdict::Refused(Reason::FillNotZero);
     }
-    put(&plain, output, at);
+    open_into(forth, back, ewords, dwords, rounds.enc, block, output, at);
     Verdict::Accepted
 }
 
@@ -87,9 +87,10 @@ fn advanced(progress: Progress, head: Head) -> Progress
 
 // Takes a block that is accepted into account.
 fn take_block(
-    sbox: &[u8; 256],
-    inv: &[u8; 256],
+    forth: &[u32; 256],
+    back: &[u32; 256],
     ewords: &[u32; 60],
+    dwords: &[u32; 60],
     cwords: &[u32; 60],
     rounds: Rounds,
     progress: Progress,
@@ -98,14 +99,15 @@ fn take_block(
     at: usize,
 ) -> Took
     requires { ⌜ (length (now block) ≡ 512) × (at + 480 ≤ length (now output)) ⌝ }
-    ensures took { λ r. ⌜ r ≡ tookAfter (judge (lentKeys (now (sbox .entry)) (now (inv .entry)) (now (ewords .entry)) (now (cwords .entry)) rounds) progress (now (block .entry))) progress (now (block .entry)) ⌝ }
-    ensures handed { λ r. ⌜ now (output .exit) ≡ outAfter (r .verdict) (sealed.opened (lentBoth (now (sbox .entry)) (now (inv .entry)) (now (ewords .entry)) (rounds .enc)) (now (block .entry))) at (now (output .entry)) ⌝ }
-    ensures sized { λ r. ⌜ (r .verdict ≡ Accepted → length (sealed.opened (lentBoth (now (sbox .entry)) (now (inv .entry)) (now (ewords .entry)) (rounds .enc)) (now (block .entry))) ≡ 480) ⌝ }
+    ensures took { λ r. ⌜ r ≡ tookAfter (judge (lentKeys (now (forth .entry)) (now (back .entry)) (now (ewords .entry)) (now (dwords .entry)) (now (cwords .entry)) rounds) progress (now (block .entry))) progress (now (block .entry)) ⌝ }
+    ensures handed { λ r. ⌜ now (output .exit) ≡ outAfter (r .verdict) (sealed.opened (lentBoth (now (forth .entry)) (now (back .entry)) (now (ewords .entry)) (now (dwords .entry)) (rounds .enc)) (now (block .entry))) at (now (output .entry)) ⌝ }
+    ensures sized { λ r. ⌜ (r .verdict ≡ Accepted → length (sealed.opened (lentBoth (now (forth .entry)) (now (back .entry)) (now (ewords .entry)) (now (dwords .entry)) (rounds .enc)) (now (block .entry))) ≡ 480) ⌝ }
 {
     let verdict = read_block(
-        sbox,
-        inv,
+        forth,
+        back,
         ewords,
+        dwords,
         cwords,
         rounds,
         progress,
@@ -130,9 +132,10 @@ fn take_block(
 
 // At most k blocks, up to the first that is refused.
 pub fn run(
-    sbox: &[u8; 256],
-    inv: &[u8; 256],
+    forth: &[u32; 256],
+    back: &[u32; 256],
     ewords: &[u32; 60],
+    dwords: &[u32; 60],
     cwords: &[u32; 60],
     rounds: Rounds,
     progress: Progress,
@@ -141,8 +144,8 @@ pub fn run(
     output: &mut [u8],
 ) -> Ran
     requires { ⌜ (k * 512 ≤ length (now blocks)) × (k * 480 ≤ length (now output)) × (k ≤ 128) ⌝ }
-    ensures answer { λ r. ⌜ r ≡ ranOf (spec.ran (lentKeys (now (sbox .entry)) (now (inv .entry)) (now (ewords .entry)) (now (cwords .entry)) rounds) progress (spec.cut k (now (blocks .entry)))) ⌝ }
-    ensures handed { λ _. ⌜ now (output .exit) ≡ over (spec.ran (lentKeys (now (sbox .entry)) (now (inv .entry)) (now (ewords .entry)) (now (cwords .entry)) rounds) progress (spec.cut k (now (blocks .entry))) .out) (now (output .entry)) ⌝ }
+    ensures answer { λ r. ⌜ r ≡ ranOf (spec.ran (lentKeys (now (forth .entry)) (now (back .entry)) (now (ewords .entry)) (now (dwords .entry)) (now (cwords .entry)) rounds) progress (spec.cut k (now (blocks .entry)))) ⌝ }
+    ensures handed { λ _. ⌜ now (output .exit) ≡ over (spec.ran (lentKeys (now (forth .entry)) (now (back .entry)) (now (ewords .entry)) (now (dwords .entry)) (now (cwords .entry)) rounds) progress (spec.cut k (now (blocks .entry))) .out) (now (output .entry)) ⌝ }
 {
     let mut state = progress;
     let mut bytes: usize = 0;
@@ -150,9 +153,10 @@ pub fn run(
     while j < k {
         let at = j * 512;
         let took = take_block(
-            sbox,
-            inv,
+            forth,
+            back,
             ewords,
+            dwords,
             cwords,
             rounds,
             state,

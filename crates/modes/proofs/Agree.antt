@@ -1,5 +1,6 @@
 -- A run over the tables of the standard is the mode over AES. Assumes nothing.
-use mathlib.Core.Path.{_≡_, refl, ap, _∙_}
+use mathlib.Core.Path.{_≡_, refl, sym, ap, _∙_}
+use mathlib.Core.Bool.{true, false, true≢false}
 use mathlib.Core.List.{List, [], _++_, append-nil}
 use Prim.Native.Nat.{ℕ, zero, suc, _+_, _*_, _/_, _%_, _≤_, _<_}
 use native.Mathlib.Omega.{arith}
@@ -13,9 +14,10 @@ use Rattle.octets.proofs.Xor.{lt-or-le}
 use Rattle.octets.proofs.Blocks.{⊕-octets}
 use Rattle.blocks.specs.Blocks.{blockAt}
 use Rattle.blocks.proofs.Laws.{block-at, block-octets}
+use Rattle.cipher.specs.Tables.{tableCipher, oneTable}
 use Rattle.cipher.proofs.Lawful.{Agree}
 use Rattle.modes.specs.Pieces.{made}
-use Rattle.modes.specs.Modes.{machine, moded, ivLength, over, common, through}
+use Rattle.modes.specs.Modes.{machine, inverts, moded, ivLength, over, common, through}
 use Rattle.modes.specs.declared.Mode.{Mode}
 use Rattle.modes.specs.declared.Mode.the-variants.{Ecb, Cbc, Cfb, Ofb}
 use Rattle.modes.specs.declared.Way.{Way}
@@ -43,6 +45,36 @@ module _ (c d : BlockCipher) (a : Agree c d) where
   next-same Cfb Decrypt st p g h = refl
   next-same Ofb Encrypt st p g h = a .enc-same st g
   next-same Ofb Decrypt st p g h = a .enc-same st g
+
+-- a mode uses the cipher one way only, so the table and the schedule of that way serve
+forward-only : (t b w v : List ℕ) (nr : ℕ) (m : Mode) (x : Way) → inverts m x ≡ false → machine (oneTable t w nr) m x ≡ machine (tableCipher t b w v nr) m x
+forward-only t b w v nr Ecb Encrypt e = refl
+forward-only t b w v nr Cbc Encrypt e = refl
+forward-only t b w v nr Cfb Encrypt e = refl
+forward-only t b w v nr Ofb Encrypt e = refl
+forward-only t b w v nr Cfb Decrypt e = refl
+forward-only t b w v nr Ofb Decrypt e = refl
+forward-only t b w v nr Ecb Decrypt e = absurd (true≢false e)
+forward-only t b w v nr Cbc Decrypt e = absurd (true≢false e)
+
+backward-only : (t b w v : List ℕ) (nr : ℕ) (m : Mode) (x : Way) → inverts m x ≡ true → machine (oneTable b v nr) m x ≡ machine (tableCipher t b w v nr) m x
+backward-only t b w v nr Ecb Decrypt e = refl
+backward-only t b w v nr Cbc Decrypt e = refl
+backward-only t b w v nr Cfb Decrypt e = absurd (true≢false (sym e))
+backward-only t b w v nr Ofb Decrypt e = absurd (true≢false (sym e))
+backward-only t b w v nr Ecb Encrypt e = absurd (true≢false (sym e))
+backward-only t b w v nr Cbc Encrypt e = absurd (true≢false (sym e))
+backward-only t b w v nr Cfb Encrypt e = absurd (true≢false (sym e))
+backward-only t b w v nr Ofb Encrypt e = absurd (true≢false (sym e))
+
+module _ (t b w v : List ℕ) (nr : ℕ) (m : Mode) (x : Way) (iv inp out : List ℕ) where
+  pub through-forward : inverts m x ≡ false → through (oneTable t w nr) m x iv inp out ≡ through (tableCipher t b w v nr) m x iv inp out
+  unfolding through
+  through-forward e = rw (forward-only t b w v nr m x e)
+
+  pub through-backward : inverts m x ≡ true → through (oneTable b v nr) m x iv inp out ≡ through (tableCipher t b w v nr) m x iv inp out
+  unfolding through
+  through-backward e = rw (backward-only t b w v nr m x e)
 
 -- ECB has no chaining value, so any serves
 ecb-any : (c : BlockCipher) (w : Way) (st st' : List ℕ) (n : ℕ) (s : List ℕ) → made 16 (machine c Ecb w) st n s ≡ made 16 (machine c Ecb w) st' n s

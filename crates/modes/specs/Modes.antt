@@ -1,6 +1,7 @@
 -- The modes of SP 800-38A, section 6, and what a call of them answers and writes. Assumes nothing: these are definitions.
 use Prim.Native.Nat.{ℕ, _+_, _*_, _/_, _%_}
 use mathlib.Core.List.{List, _++_}
+use mathlib.Core.Bool.{Bool, true, false}
 use lib.Dec.{eqb, ltb}
 use lib.ListN.{length, drop}
 use Rattle.octets.specs.Octets.{choose}
@@ -26,6 +27,14 @@ machine c Cfb Encrypt = record { out = λ st p. p ⊕ c .enc st; next = λ st p.
 machine c Cfb Decrypt = record { out = λ st p. p ⊕ c .enc st; next = λ st p. p }
 machine c Ofb Encrypt = record { out = λ st p. p ⊕ c .enc st; next = λ st p. c .enc st }
 machine c Ofb Decrypt = record { out = λ st p. p ⊕ c .enc st; next = λ st p. c .enc st }
+
+-- whether a mode uses the inverse cipher
+abbrev pub inverts : Mode → Way → Bool
+inverts m Encrypt = false
+inverts Ecb Decrypt = true
+inverts Cbc Decrypt = true
+inverts Cfb Decrypt = false
+inverts Ofb Decrypt = false
 
 -- a mode over a list of bytes, its pieces counted rounding up
 abbrev pub moded : BlockCipher → Mode → Way → List ℕ → List ℕ → List ℕ

@@ -4,15 +4,17 @@ mod steps;
 use crate::steps::step;
 use blocks::load;
 use blocks::store;
-use sbox::inv_table;
-use sbox::table;
+use cipher::inverse_words;
 use schedule::KeyAnswer;
 use schedule::KeySchedule;
+use tables::forward_table;
+use tables::inverse_table;
 ghost use mathlib.Core.Path.{_≡_};
-ghost use Rattle.sbox.specs.Sbox.{entry};
 ghost use Rattle.schedule.specs.Schedule.{keyNumber};
-ghost use Rattle.cipher.specs.Cipher.{blockCipher};
+ghost use Rattle.cipher.specs.Tables.{tableCipher, oneTable, inverseWords};
+ghost use Rattle.tables.specs.Tables.{forwardTable, inverseTable};
 ghost use Rattle.modes.specs.Modes.{ivLength, ruled, modeAnswer, modeOutput, common, through};
+ghost use Rattle.modes.specs.Modes as spec;
 
 pub enum Mode {
     Ecb,
@@ -47,8 +49,7 @@ pub fn apply(
     ensures answer { λ r. ⌜ r ≡ modeAnswer mode (now (key .entry)) (now (iv .entry)) (now (input .entry)) (now (output .entry)) ⌝ }
     ensures written { λ r. ⌜ now (output .exit) ≡ modeOutput r mode way (now (key .entry)) (now (iv .entry)) (now (input .entry)) (now (output .entry)) ⌝ }
 {
-    let sbox = table();
-    let made = KeySchedule::with(&sbox, key);
+    let made = KeySchedule::new(key);
     let taken = made.answer;
     let schedule = made.schedule;
     let words = schedule.words;
@@ -56,10 +57,7 @@ pub fn apply(
     let ModeAnswer::Done = answer else {
         return answer;
     };
-    let inv = inv_table();
-    run(
-        &sbox,
-        &inv,
+    under(
         &words,
         schedule.rounds,
         mode,
@@ -71,10 +69,8 @@ pub fn apply(
     answer
 }
 
-// Runs the whole pieces that input and output have in common through a mode, under a schedule and with tables lent.
-pub fn run(
-    sbox: &[u8; 256],
-    inv: &[u8; 256],
+// Runs through a mode under a schedule, with the one table that the mode looks up in.
+fn under(
     words: &[u32; 60],
     rounds: usize,
     mode: Mode,
@@ -83,17 +79,56 @@ pub fn run(
     input: &[u8],
     output: &mut [u8],
 )
-    ensures { λ _. ⌜ now (output .exit) ≡ through (blockCipher (entry (now (sbox .entry))) (entry (now (inv .entry))) (now (words .entry)) rounds) mode way iv (now (input .entry)) (now (output .entry)) ⌝ }
+    ensures { λ _. ⌜ now (output .exit) ≡ through (tableCipher forwardTable inverseTable (now (words .entry)) (inverseWords (now (words .entry)) rounds) rounds) mode way iv (now (input .entry)) (now (output .entry)) ⌝ }
+{
+    if inverts(mode, way) {
+        let table = inverse_table();
+        let inverse = inverse_words(words, rounds);
+        run(&table, &inverse, rounds, mode, way, iv, input, output);
+    } else {
+        let table = forward_table();
+        run(&table, words, rounds, mode, way, iv, input, output);
+    }
+}
+
+// Runs the whole pieces that input and output have in common through a mode, with a table and a schedule lent:
+// those of the inverse cipher where the mode inverts, of the cipher elsewhere.
+pub fn run(
+    table: &[u32; 256],
+    words: &[u32; 60],
+    rounds: usize,
+    mode: Mode,
+    way: Way,
+    iv: [u8; 16],
+    input: &[u8],
+    output: &mut [u8],
+)
+    ensures { λ _. ⌜ now (output .exit) ≡ through (oneTable (now (table .entry)) (now (words .entry)) rounds) mode way iv (now (input .entry)) (now (output .entry)) ⌝ }
 {
     let n = in_common(input.len(), output.len());
     let mut chain = iv;
     for i in 0..n {
         let piece = load(input, i * 16);
-        let s = step(sbox, inv, words, rounds, mode, way, chain, piece);
+        let s = step(table, words, rounds, mode, way, chain, piece);
         let out = s.out;
         let next = s.next;
         store(output, i * 16, out);
         chain = next;
+    }
+}
+
+// Whether a mode uses the inverse cipher: decryption in CFB and OFB does not.
+fn inverts(mode: Mode, way: Way) -> bool
+    ensures { λ r. ⌜ r ≡ spec.inverts mode way ⌝ }
+{
+    let Way::Decrypt = way else {
+        return false;
+    };
+    match mode {
+        Mode::Ecb => true,
+        Mode::Cbc => true,
+        Mode::Cfb => false,
+        Mode::Ofb => false,
     }
 }
 

@@ -1,12 +1,12 @@
 // One piece through each mode, each way: what comes out, and what the next piece is chained to.
+// The table and the schedule are those of the way in which the mode uses the cipher.
 use crate::Mode;
 use crate::Way;
 use blocks::xor;
 use cipher::decrypt_block;
 use cipher::encrypt_block;
 ghost use mathlib.Core.Path.{_≡_};
-ghost use Rattle.sbox.specs.Sbox.{entry};
-ghost use Rattle.cipher.specs.Cipher.{blockCipher};
+ghost use Rattle.cipher.specs.Tables.{oneTable};
 ghost use Rattle.modes.specs.declared.Mode.the-variants.{Ecb, Cbc, Cfb, Ofb};
 ghost use Rattle.modes.specs.Modes.{machine};
 ghost use Rattle.modes.specs.Steps.{stepOf};
@@ -17,8 +17,7 @@ pub struct Stepped {
 }
 
 pub fn step(
-    sbox: &[u8; 256],
-    inv: &[u8; 256],
+    table: &[u32; 256],
     words: &[u32; 60],
     rounds: usize,
     mode: Mode,
@@ -26,57 +25,55 @@ pub fn step(
     chain: [u8; 16],
     piece: [u8; 16],
 ) -> Stepped
-    ensures { λ r. ⌜ r ≡ stepOf (machine (blockCipher (entry (now (sbox .entry))) (entry (now (inv .entry))) (now (words .entry)) rounds) mode way) chain piece ⌝ }
+    ensures { λ r. ⌜ r ≡ stepOf (machine (oneTable (now (table .entry)) (now (words .entry)) rounds) mode way) chain piece ⌝ }
 {
     match mode {
-        Mode::Ecb => ecb(sbox, inv, words, rounds, way, chain, piece),
-        Mode::Cbc => cbc(sbox, inv, words, rounds, way, chain, piece),
-        Mode::Cfb => cfb(sbox, inv, words, rounds, way, chain, piece),
-        Mode::Ofb => ofb(sbox, inv, words, rounds, way, chain, piece),
+        Mode::Ecb => ecb(table, words, rounds, way, chain, piece),
+        Mode::Cbc => cbc(table, words, rounds, way, chain, piece),
+        Mode::Cfb => cfb(table, words, rounds, way, chain, piece),
+        Mode::Ofb => ofb(table, words, rounds, way, chain, piece),
     }
 }
 
 fn ecb(
-    sbox: &[u8; 256],
-    inv: &[u8; 256],
+    table: &[u32; 256],
     words: &[u32; 60],
     rounds: usize,
     way: Way,
     chain: [u8; 16],
     piece: [u8; 16],
 ) -> Stepped
-    ensures { λ r. ⌜ r ≡ stepOf (machine (blockCipher (entry (now (sbox .entry))) (entry (now (inv .entry))) (now (words .entry)) rounds) Ecb way) chain piece ⌝ }
+    ensures { λ r. ⌜ r ≡ stepOf (machine (oneTable (now (table .entry)) (now (words .entry)) rounds) Ecb way) chain piece ⌝ }
 {
     match way {
         Way::Encrypt => {
-            let out = encrypt_block(sbox, words, rounds, piece);
+            let out = encrypt_block(table, words, rounds, piece);
             Stepped { out, next: chain }
         }
         Way::Decrypt => {
-            let out = decrypt_block(inv, words, rounds, piece);
+            let out = decrypt_block(table, words, rounds, piece);
             Stepped { out, next: chain }
         }
     }
 }
 
 fn cbc(
-    sbox: &[u8; 256],
-    inv: &[u8; 256],
+    table: &[u32; 256],
     words: &[u32; 60],
     rounds: usize,
     way: Way,
     chain: [u8; 16],
     piece: [u8; 16],
 ) -> Stepped
-    ensures { λ r. ⌜ r ≡ stepOf (machine (blockCipher (entry (now (sbox .entry))) (entry (now (inv .entry))) (now (words .entry)) rounds) Cbc way) chain piece ⌝ }
+    ensures { λ r. ⌜ r ≡ stepOf (machine (oneTable (now (table .entry)) (now (words .entry)) rounds) Cbc way) chain piece ⌝ }
 {
     match way {
         Way::Encrypt => {
-            let out = encrypt_block(sbox, words, rounds, xor(piece, chain));
+            let out = encrypt_block(table, words, rounds, xor(piece, chain));
             Stepped { out, next: out }
         }
         Way::Decrypt => {
-            let out = xor(decrypt_block(inv, words, rounds, piece), chain);
+            let out = xor(decrypt_block(table, words, rounds, piece), chain);
             Stepped { out, next: piece }
         }
     }
@@ -84,17 +81,16 @@ fn cbc(
 
 // Decryption uses the encrypting cipher, as OFB's does.
 fn cfb(
-    sbox: &[u8; 256],
-    inv: &[u8; 256],
+    table: &[u32; 256],
     words: &[u32; 60],
     rounds: usize,
     way: Way,
     chain: [u8; 16],
     piece: [u8; 16],
 ) -> Stepped
-    ensures { λ r. ⌜ r ≡ stepOf (machine (blockCipher (entry (now (sbox .entry))) (entry (now (inv .entry))) (now (words .entry)) rounds) Cfb way) chain piece ⌝ }
+    ensures { λ r. ⌜ r ≡ stepOf (machine (oneTable (now (table .entry)) (now (words .entry)) rounds) Cfb way) chain piece ⌝ }
 {
-    let key_stream = encrypt_block(sbox, words, rounds, chain);
+    let key_stream = encrypt_block(table, words, rounds, chain);
     let out = xor(piece, key_stream);
     match way {
         Way::Encrypt => Stepped { out, next: out },
@@ -103,17 +99,16 @@ fn cfb(
 }
 
 fn ofb(
-    sbox: &[u8; 256],
-    inv: &[u8; 256],
+    table: &[u32; 256],
     words: &[u32; 60],
     rounds: usize,
     way: Way,
     chain: [u8; 16],
     piece: [u8; 16],
 ) -> Stepped
-    ensures { λ r. ⌜ r ≡ stepOf (machine (blockCipher (entry (now (sbox .entry))) (entry (now (inv .entry))) (now (words .entry)) rounds) Ofb way) chain piece ⌝ }
+    ensures { λ r. ⌜ r ≡ stepOf (machine (oneTable (now (table .entry)) (now (words .entry)) rounds) Ofb way) chain piece ⌝ }
 {
-    let next = encrypt_block(sbox, words, rounds, chain);
+    let next = encrypt_block(table, words, rounds, chain);
     let out = xor(piece, next);
     match way {
         Way::Encrypt => Stepped { out, next },

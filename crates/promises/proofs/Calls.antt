@@ -17,12 +17,17 @@ use Rattle.words.proofs.rot_word.Reads as rot-word
 use Rattle.words.proofs.substitute.Reads as substitute
 use Rattle.words.proofs.mix_column.Reads as mix-column
 use Rattle.words.proofs.inv_mix_column.Reads as inv-mix-column
+use Rattle.words.proofs.spun.Reads as spun
+use Rattle.words.proofs.middles.Reads as middles
 use Rattle.schedule.proofs.KeySchedule.new.Reads as new
 use Rattle.schedule.proofs.KeySchedule.with.Reads as with
+use Rattle.tables.proofs.forward_table.Reads as forward-table
+use Rattle.tables.proofs.inverse_table.Reads as inverse-table
 use Rattle.cipher.proofs.encrypt.Reads as encrypt
 use Rattle.cipher.proofs.decrypt.Reads as decrypt
 use Rattle.cipher.proofs.encrypt_block.Reads as encrypt-block
 use Rattle.cipher.proofs.decrypt_block.Reads as decrypt-block
+use Rattle.cipher.proofs.inverse_words.Reads as inverse-words
 
 pub double-asks-nothing : (κs : _) (a : _) → double.Asked κs a
 double-asks-nothing κs a = tt
@@ -78,6 +83,18 @@ inv-mix-column-asks-nothing κs a = tt
 pub inv-mix-column-determined : (κs : _) (a : _) (r r′ : _) (s s′ : _) → inv-mix-column.Post κs a r s → inv-mix-column.Post κs a r′ s′ → r ≡ r′
 inv-mix-column-determined κs a r r′ s s′ p q = p ∙ sym q
 
+pub spun-asks-nothing : (κs : _) (a : _) → spun.Asked κs a
+spun-asks-nothing κs a = tt
+
+pub spun-determined : (κs : _) (a : _) (r r′ : _) (s s′ : _) → spun.Post κs a r s → spun.Post κs a r′ s′ → r ≡ r′
+spun-determined κs a r r′ s s′ p q = p ∙ sym q
+
+pub middles-asks-nothing : (κs : _) (a : _) → middles.Asked κs a
+middles-asks-nothing κs a = tt
+
+pub middles-determined : (κs : _) (a : _) (r r′ : _) (s s′ : _) → middles.Post κs a r s → middles.Post κs a r′ s′ → r ≡ r′
+middles-determined κs a r r′ s s′ p q = p ∙ sym q
+
 pub new-asks-nothing : (κs : _) (a : _) → new.Asked κs a
 new-asks-nothing κs a = tt
 
@@ -89,6 +106,18 @@ with-asks-nothing κs a = tt
 
 pub with-determined : (κs : _) (a : _) (r r′ : _) (s s′ : _) → with.Post κs a r s → with.Post κs a r′ s′ → r ≡ r′
 with-determined κs a r r′ s s′ p q = p ∙ sym q
+
+pub forward-table-asks-nothing : (κs : _) (a : _) → forward-table.Asked κs a
+forward-table-asks-nothing κs a = tt
+
+pub forward-table-determined : (κs : _) (a : _) (r r′ : _) (s s′ : _) → forward-table.Post κs a r s → forward-table.Post κs a r′ s′ → r ≡ r′
+forward-table-determined κs a r r′ s s′ p q = p ∙ sym q
+
+pub inverse-table-asks-nothing : (κs : _) (a : _) → inverse-table.Asked κs a
+inverse-table-asks-nothing κs a = tt
+
+pub inverse-table-determined : (κs : _) (a : _) (r r′ : _) (s s′ : _) → inverse-table.Post κs a r s → inverse-table.Post κs a r′ s′ → r ≡ r′
+inverse-table-determined κs a r r′ s s′ p q = p ∙ sym q
 
 pub encrypt-asks-nothing : (κs : _) (a : _) → encrypt.Asked κs a
 encrypt-asks-nothing κs a = tt
@@ -113,6 +142,12 @@ decrypt-block-asks-nothing κs a = tt
 
 pub decrypt-block-determined : (κs : _) (a : _) (r r′ : _) (s s′ : _) → decrypt-block.Post κs a r s → decrypt-block.Post κs a r′ s′ → r ≡ r′
 decrypt-block-determined κs a r r′ s s′ p q = p ∙ sym q
+
+pub inverse-words-asks-nothing : (κs : _) (a : _) → inverse-words.Asked κs a
+inverse-words-asks-nothing κs a = tt
+
+pub inverse-words-determined : (κs : _) (a : _) (r r′ : _) (s s′ : _) → inverse-words.Post κs a r s → inverse-words.Post κs a r′ s′ → r ≡ r′
+inverse-words-determined κs a r r′ s s′ p q = p ∙ sym q
 
 pub load-asks-nothing : (κs : _) (a : _) → load.Asked κs a
 load-asks-nothing κs a = tt

@@ -5,11 +5,12 @@ use mathlib.Core.List.{List, [], _∷_, _++_}
 use Prim.Native.Nat.{ℕ}
 use denote.Ref.{now}
 use lib.ListN.{length, replicate}
-use Rattle.octets.specs.Octets.{Bytes, padTo, tabulate}
+use Rattle.octets.specs.Octets.{Bytes, padTo}
 use Rattle.octets.specs.Blocks.{BlockCipher}
-use Rattle.sbox.specs.Sbox.{sBox, invSBox, entry}
+use Rattle.sbox.specs.Sbox.{sBox, invSBox}
 use Rattle.schedule.specs.Schedule.{taken, refused, scheduleOf, keyNumber}
 use Rattle.schedule.specs.declared.Expanded.{Expanded}
+use Rattle.tables.specs.Tables.{forwardTable}
 use Rattle.cipher.specs.State.{aes}
 use Rattle.cipher.specs.Cipher.{roundCount, cipher, invCipher, encryptBlock, decryptBlock, aesOf}
 use Rattle.cipher.proofs.Padding.{cipher-padded, inv-cipher-padded}
@@ -21,7 +22,7 @@ use Rattle.cmac.specs.declared.Checked.{Checked}
 use Rattle.cmac.specs.declared.Started.{Started}
 use Rattle.cmac.proofs.OnePiece.{one-piece}
 use Rattle.cmac.proofs.Under.{cmac-table}
-use Rattle.cmac.proofs.Parts.{running-whole, close-zeros, cmac-zeros}
+use Rattle.cmac.proofs.Parts.{running-whole, close-zeros, cmac-zeros, lent-zeros}
 use Rattle.promises.proofs.Cipher.{KeySize, NoKeySize, sized, unsized, known-rounds, expanded}
 use Rattle.cmac.proofs.check.Reads as check
 use Rattle.cmac.proofs.start.Reads as start
@@ -119,7 +120,7 @@ pub check-refuses : (κs : _) (a : _) (r : _) (s : _) → check.Post κs a r s �
 unfolding checkOf refused
 check-refuses κs a r s p h =
     let t = p ∙ ap (λ (e : Expanded). checkedBy e (now (a .1 .0))) (unsized (now (a .0)) h) in
-    (ap (λ (x : Checked). keyNumber (x .answer)) t, ap (λ (x : Checked). x .check) t ∙ cmac-zeros sBox invSBox (replicate 60 0) 0 (now (a .1 .0)) refl)
+    (ap (λ (x : Checked). keyNumber (x .answer)) t, ap (λ (x : Checked). x .check) t ∙ cmac-zeros (replicate 60 0) 0 (now (a .1 .0)) refl)
 
 pub start-takes : (κs : _) (a : _) (r : _) (s : _) → start.Post κs a r s → {n nk nr : ℕ} → KeySize n nk nr → length (now (a .0)) ≡ n → keyNumber (r .answer) ≡ 0
 unfolding startOf
@@ -141,10 +142,10 @@ close-of-no-key κs a r s p e = p ∙ close-zeros (a .0) e
 
 -- and so is a check made under such a schedule
 pub check-with-of-no-key : (κs : _) (a : _) (r : _) (s : _) → check-with.Post κs a r s → roundCount (a .1 .1 .0) ≡ false → r ≡ replicate 16 0
-check-with-of-no-key κs a r s p e = p ∙ cmac-zeros (entry (now (a .0))) invSBox (now (a .1 .0)) (a .1 .1 .0) (now (a .1 .1 .1 .0)) e
+check-with-of-no-key κs a r s p e = p ∙ lent-zeros (now (a .0)) (now (a .1 .0)) (a .1 .1 .0) (now (a .1 .1 .1 .0)) e
 
--- with the S-box lent, a check made under a schedule is CMAC under AES of that schedule
-pub check-with-is-cmac : (κs : _) (a : _) (r : _) (s : _) → check-with.Post κs a r s → now (a .0) ≡ tabulate 256 sBox → Bytes (now (a .1 .1 .1 .0))
+-- with the forward table lent, a check made under a schedule is CMAC under AES of that schedule
+pub check-with-is-cmac : (κs : _) (a : _) (r : _) (s : _) → check-with.Post κs a r s → now (a .0) ≡ forwardTable → Bytes (now (a .1 .1 .1 .0))
     → r ≡ cmac (standard (now (a .1 .0)) (a .1 .1 .0)) (now (a .1 .1 .1 .0))
 check-with-is-cmac κs a r s p e b =
     p ∙ ap (λ (t : List ℕ). cmac (lent t (now (a .1 .0)) (a .1 .1 .0)) (now (a .1 .1 .1 .0))) e ∙ cmac-table (now (a .1 .0)) (a .1 .1 .0) (now (a .1 .1 .1 .0)) b

@@ -45,13 +45,13 @@ pub run-asks-nothing : (κs : _) (a : _) → run.Asked κs a
 run-asks-nothing κs a = tt
 
 pub run-determined : (κs : _) (a : _) (r r′ : _) (s s′ : _) → run.Post κs a r s → run.Post κs a r′ s′
-    → now (s .1 .1 .1 .1 .1 .1 .1 .1 .0) ≡ now (s′ .1 .1 .1 .1 .1 .1 .1 .1 .0)
+    → now (s .1 .1 .1 .1 .1 .1 .1 .0) ≡ now (s′ .1 .1 .1 .1 .1 .1 .1 .0)
 run-determined κs a r r′ s s′ p q = p ∙ sym q
 
 -- a run refuses nothing; where input and output have no whole piece in common it leaves the output as it was
 pub run-refused-keeps : (κs : _) (a : _) (r : _) (s : _) → run.Post κs a r s
-    → common (length (now (a .1 .1 .1 .1 .1 .1 .1 .0))) (length (now (a .1 .1 .1 .1 .1 .1 .1 .1 .0))) ≡ 0
-    → now (s .1 .1 .1 .1 .1 .1 .1 .1 .0) ≡ now (a .1 .1 .1 .1 .1 .1 .1 .1 .0)
+    → common (length (now (a .1 .1 .1 .1 .1 .1 .0))) (length (now (a .1 .1 .1 .1 .1 .1 .1 .0))) ≡ 0
+    → now (s .1 .1 .1 .1 .1 .1 .1 .0) ≡ now (a .1 .1 .1 .1 .1 .1 .1 .0)
 unfolding through made
 run-refused-keeps κs a r s p e = p ∙ rw e
 

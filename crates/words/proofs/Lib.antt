@@ -1,2 +1,3 @@
 pub mod Rotate
 pub mod Mix
+pub mod Spin

@@ -57,3 +57,20 @@ mixColumn x = column mixRow (byte 0 x) (byte 1 x) (byte 2 x) (byte 3 x)
 
 unfoldable pub invMixColumn : ℕ → ℕ
 invMixColumn x = column invMixRow (byte 0 x) (byte 1 x) (byte 2 x) (byte 3 x)
+
+-- ---- a round by lookups in a table of words
+
+-- what byte 0 of a column adds to the mixed column, where each byte is substituted first; and to the one mixed back
+abbrev pub mixedEntry : (ℕ → ℕ) → ℕ → ℕ
+mixedEntry sub x = mixColumn (word (sub x) 0 0 0)
+
+abbrev pub invMixedEntry : (ℕ → ℕ) → ℕ → ℕ
+invMixedEntry sub x = invMixColumn (word (sub x) 0 0 0)
+
+-- byte 0 of a, byte 1 of b, byte 2 of c and byte 3 of d looked up in the table t, each entry turned to its byte's place, added up
+unfoldable pub spun : (ℕ → ℕ) → ℕ → ℕ → ℕ → ℕ → ℕ
+spun t a b c d = xor (xor (t (byte 0 a)) (rotThree (t (byte 1 b)))) (xor (rotTwo (t (byte 2 c))) (rotWord (t (byte 3 d))))
+
+-- what `mixedEntry` has substituted: the matrix of MIXCOLUMNS has 1 in the third row of its first column
+abbrev pub middle : (ℕ → ℕ) → ℕ → ℕ
+middle t x = byte 2 (t x)

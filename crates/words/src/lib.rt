@@ -3,7 +3,9 @@ ghost use mathlib.Core.Path.{_≡_};
 ghost use Prim.Native.Nat.{_<_};
 ghost use Rattle.octets.specs.Words.{word};
 ghost use Rattle.sbox.specs.Sbox.{entry};
-ghost use Rattle.words.specs.Columns.{rotWord, rotTwo, rotThree, IsDiagonal, doubled, mixColumn, invMixColumn};
+ghost use Rattle.words.specs.Columns.{rotWord, rotTwo, rotThree, diagonal, IsDiagonal, doubled, mixColumn, invMixColumn};
+ghost use Rattle.words.specs.Columns.{middle};
+ghost use Rattle.words.specs.Columns as spec;
 
 pub fn join(a: u8, b: u8, c: u8, d: u8) -> u32
     ensures { λ r. ⌜ r ≡ word a b c d ⌝ }
@@ -42,6 +44,43 @@ pub fn inv_mix_column(x: u32) -> u32
     ensures { λ r. ⌜ r ≡ invMixColumn x ⌝ }
 {
     mix_column(x ^ double_each(double_each(x ^ rot_two(x))))
+}
+
+// Byte 0 of a, byte 1 of b, byte 2 of c and byte 3 of d, each looked up and turned to its place: over a mixed table, a column of a round.
+pub fn spun(table: &[u32; 256], a: u32, b: u32, c: u32, d: u32) -> u32
+    ensures { λ r. ⌜ r ≡ spec.spun (entry (now (table .entry))) a b c d ⌝ }
+{
+    let p = word_at(table, a / 16777216 % 256);
+    let q = rot_three(word_at(table, b / 65536 % 256));
+    let u = rot_two(word_at(table, c / 256 % 256));
+    let v = rot_word(word_at(table, d % 256));
+    (p ^ q) ^ (u ^ v)
+}
+
+// The same four bytes only substituted, as the table of the mixing has them.
+pub fn middles(table: &[u32; 256], a: u32, b: u32, c: u32, d: u32) -> u32
+    ensures { λ r. ⌜ r ≡ diagonal (middle (entry (now (table .entry)))) a b c d ⌝ }
+{
+    packed(
+        middle_at(table, a / 16777216 % 256),
+        middle_at(table, b / 65536 % 256),
+        middle_at(table, c / 256 % 256),
+        middle_at(table, d % 256),
+    )
+}
+
+fn word_at(table: &[u32; 256], x: u32) -> u32
+    requires { ⌜ x < 256 ⌝ }
+    ensures { λ r. ⌜ r ≡ entry (now (table .entry)) x ⌝ }
+{
+    table[x as usize]
+}
+
+fn middle_at(table: &[u32; 256], x: u32) -> u32
+    requires { ⌜ x < 256 ⌝ }
+    ensures { λ r. ⌜ (r ≡ middle (entry (now (table .entry))) x) × (r < 256) ⌝ }
+{
+    table[x as usize] / 256 % 256
 }
 
 fn rot_two(x: u32) -> u32

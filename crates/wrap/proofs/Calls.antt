@@ -9,24 +9,25 @@ use denote.Enum.Declared.{tagOf}
 use borrow.Author.Tests.{eqb-true, ltb-false}
 use lib.Dec.{eqb, ltb}
 use lib.ListN.{length, drop}
-use Rattle.octets.specs.Octets.{Bytes, choose, tabulate}
+use Rattle.octets.specs.Octets.{Bytes, choose}
 use Rattle.octets.specs.Blocks.{Lawful}
-use Rattle.sbox.specs.Sbox.{sBox, invSBox, entry}
+use Rattle.sbox.specs.Sbox.{sBox}
 use Rattle.schedule.specs.Schedule.{scheduleOf, keyNumber}
 use Rattle.schedule.specs.declared.Expanded.{Expanded}
-use Rattle.schedule.proofs.Laws.{schedule-table}
 use Rattle.cipher.specs.Cipher.{aesOf}
-use Rattle.cipher.proofs.Lawful.{key-lawful}
+use Rattle.cipher.specs.Tables.{inverseWords}
+use Rattle.tables.specs.Tables.{forwardTable, inverseTable}
+use Rattle.cipher.proofs.Lawful.{lent-agrees, key-lawful}
 use Rattle.blocks.specs.Blocks.{same}
 use Rattle.modes.specs.Modes.{over}
 use Rattle.wrap.specs.Wrap.{initial, register, wrapped, unwrapped}
 use Rattle.wrap.specs.Calls.{sizeFits, wrappedSizeFits, wrapRuled, wrapAnswer, wrapOutput, opening, unwrapAnswer, unwrapOutput}
-use Rattle.wrap.specs.Lent.{lentEnc, lentDec, openedOver}
+use Rattle.wrap.specs.Lent.{lent, openedOver}
 use Rattle.wrap.specs.declared.WrapAnswer.{WrapAnswer}
 use Rattle.wrap.specs.declared.WrapAnswer.the-variants.{WrapDone, WrapKey, WrapSize, WrapRoom, WrongInitial}
 use Rattle.wrap.proofs.WrapAnswer.{the-type}
 use Rattle.wrap.proofs.Sizes.{size-parts, wrapped-size-parts}
-use Rattle.wrap.proofs.Agree.{wrapped-same, unwrapped-same, enc-agrees, dec-agrees}
+use Rattle.wrap.proofs.Agree.{wrapped-same, unwrapped-same}
 
 -- the tag of an answer that is not the first case
 abbrev pub Refused : WrapAnswer → Type 0
@@ -88,17 +89,14 @@ module _ (key : ℕ) (size : Bool) (result out : ℕ) where
 
 -- ---- the calls
 
-module _ (key t : List ℕ) (x : Expanded) (pt : t ≡ tabulate 256 sBox) (px : x ≡ scheduleOf (entry t) key) (dat out : List ℕ) (a : WrapAnswer) where
-  made-is : x ≡ scheduleOf sBox key
-  made-is = px ∙ ap (λ (y : List ℕ). scheduleOf (entry y) key) pt ∙ schedule-table sBox key
-
+module _ (key : List ℕ) (x : Expanded) (px : x ≡ scheduleOf sBox key) (dat out : List ℕ) (a : WrapAnswer) where
   lawful : keyNumber (x .answer) ≡ 0 → Lawful 16 (aesOf key)
-  lawful e = key-lawful key (ap (λ (y : Expanded). keyNumber (y .answer)) (sym made-is) ∙ e)
+  lawful e = key-lawful key (ap (λ (y : Expanded). keyNumber (y .answer)) (sym px) ∙ e)
 
   module _ (pa : a ≡ wrapRuled (keyNumber (x .answer)) (sizeFits (length dat)) (length dat + 8) (length out) WrapDone) where
     pub wrap-answered : a ≡ wrapAnswer key dat out
     unfolding wrapAnswer
-    wrap-answered = pa ∙ ap (λ (y : Expanded). wrapRuled (keyNumber (y .answer)) (sizeFits (length dat)) (length dat + 8) (length out) WrapDone) made-is
+    wrap-answered = pa ∙ ap (λ (y : Expanded). wrapRuled (keyNumber (y .answer)) (sizeFits (length dat)) (length dat + 8) (length out) WrapDone) px
 
     module _ (q : a ≡ WrapDone) where
       wrap-passed : Passed (keyNumber (x .answer)) (sizeFits (length dat)) (length dat + 8) (length out)
@@ -107,19 +105,19 @@ module _ (key t : List ℕ) (x : Expanded) (pt : t ≡ tabulate 256 sBox) (px : 
       pub wrap-fits : (length dat ≤ 64) × (length dat % 8 ≡ 0) × (length dat + 8 ≤ length out)
       wrap-fits = let s = size-parts (length dat) (wrap-passed .size-right) in (s .1, s .2, wrap-passed .room)
 
-      pub wrapped-by : (o : List ℕ) → Bytes dat → o ≡ over (wrapped (lentEnc t (x .schedule .words) (x .schedule .rounds)) dat) out → o ≡ wrapOutput a key dat out
-      wrapped-by o b po =
+      pub wrapped-by : (t o : List ℕ) → t ≡ forwardTable → Bytes dat → o ≡ over (wrapped (lent t (x .schedule .words) (x .schedule .rounds)) dat) out → o ≡ wrapOutput a key dat out
+      wrapped-by t o pt b po =
           let w = scheduleOf sBox key .schedule .words in
           let nr = scheduleOf sBox key .schedule .rounds in
-          po ∙ rw (q, made-is)
-          (ap (λ (y : List ℕ). over y out) (wrapped-same (lentEnc t w nr) (aesOf key) (enc-agrees t w nr pt) (lawful (wrap-passed .key-taken)) dat (wrap-fits .1) b))
+          po ∙ rw (q, px, pt)
+          (ap (λ (y : List ℕ). over y out) (wrapped-same (lent forwardTable w nr) (aesOf key) (lent-agrees w nr .enc-same) (lawful (wrap-passed .key-taken)) dat (wrap-fits .1) b))
 
   module _ (pa : a ≡ wrapRuled (keyNumber (x .answer)) (wrappedSizeFits (length dat)) (length dat - 8) (length out) WrapDone) where
     pub unwrap-refused : Refused a → a ≡ unwrapAnswer key dat out
     unfolding unwrapAnswer
     unwrap-refused h =
         ruled-refused (keyNumber (x .answer)) (wrappedSizeFits (length dat)) (length dat - 8) (length out) (opening (aesOf key) dat) a pa h
-        ∙ ap (λ (y : Expanded). wrapRuled (keyNumber (y .answer)) (wrappedSizeFits (length dat)) (length dat - 8) (length out) (opening (aesOf key) dat)) made-is
+        ∙ ap (λ (y : Expanded). wrapRuled (keyNumber (y .answer)) (wrappedSizeFits (length dat)) (length dat - 8) (length out) (opening (aesOf key) dat)) px
 
     module _ (q : a ≡ WrapDone) where
       unwrap-passed : Passed (keyNumber (x .answer)) (wrappedSizeFits (length dat)) (length dat - 8) (length out)
@@ -130,15 +128,15 @@ module _ (key t : List ℕ) (x : Expanded) (pt : t ≡ tabulate 256 sBox) (px : 
           let s = wrapped-size-parts (length dat) (unwrap-passed .size-right) in
           (omega (arith, s .0), s .1, s .2, omega (arith, unwrap-passed .room))
 
-      module _ (t' : List ℕ) (pi : t' ≡ tabulate 256 invSBox) (b : Bytes dat) where
-        unwrapped-is : unwrapped (lentDec t' (x .schedule .words) (x .schedule .rounds)) dat ≡ unwrapped (aesOf key) dat
+      module _ (t v : List ℕ) (pt : t ≡ inverseTable) (pv : v ≡ inverseWords (x .schedule .words) (x .schedule .rounds)) (b : Bytes dat) where
+        unwrapped-is : unwrapped (lent t v (x .schedule .rounds)) dat ≡ unwrapped (aesOf key) dat
         unwrapped-is =
             let w = scheduleOf sBox key .schedule .words in
             let nr = scheduleOf sBox key .schedule .rounds in
             let f = unwrap-fits in
-            rw made-is (unwrapped-same (lentDec t' w nr) (aesOf key) (dec-agrees t' w nr pi) (lawful (unwrap-passed .key-taken)) dat (f .0) (f .2) b)
+            rw (pv, px, pt) (unwrapped-same (lent inverseTable (inverseWords w nr) nr) (aesOf key) (lent-agrees w nr .dec-same) (lawful (unwrap-passed .key-taken)) dat (f .0) (f .2) b)
 
-        module _ (r : WrapAnswer) (pr : r ≡ opening (lentDec t' (x .schedule .words) (x .schedule .rounds)) dat) where
+        module _ (r : WrapAnswer) (pr : r ≡ opening (lent t v (x .schedule .rounds)) dat) where
           opening-is : r ≡ opening (aesOf key) dat
           opening-is = pr ∙ ap (λ (u : List ℕ). choose (same (register u 0) initial) WrapDone WrongInitial) unwrapped-is
 
@@ -147,9 +145,9 @@ module _ (key t : List ℕ) (x : Expanded) (pt : t ≡ tabulate 256 sBox) (px : 
           unwrap-answered =
               opening-is
               ∙ sym (ruled-through (keyNumber (x .answer)) (wrappedSizeFits (length dat)) (length dat - 8) (length out) (opening (aesOf key) dat) (sym pa ∙ q))
-              ∙ ap (λ (y : Expanded). wrapRuled (keyNumber (y .answer)) (wrappedSizeFits (length dat)) (length dat - 8) (length out) (opening (aesOf key) dat)) made-is
+              ∙ ap (λ (y : Expanded). wrapRuled (keyNumber (y .answer)) (wrappedSizeFits (length dat)) (length dat - 8) (length out) (opening (aesOf key) dat)) px
 
-          pub unwrapped-by : (o : List ℕ) → o ≡ openedOver (lentDec t' (x .schedule .words) (x .schedule .rounds)) dat out → o ≡ unwrapOutput r key dat out
+          pub unwrapped-by : (o : List ℕ) → o ≡ openedOver (lent t v (x .schedule .rounds)) dat out → o ≡ unwrapOutput r key dat out
           unwrapped-by o po =
               po ∙ ap (λ (u : List ℕ). choose (same (register u 0) initial) (over (drop 8 u) out) out) unwrapped-is
               ∙ each (same (register (unwrapped (aesOf key) dat) 0) initial)

@@ -6,10 +6,11 @@ use crate::registers::copy;
 use crate::registers::is_initial;
 use crate::steps::passes;
 use crate::steps::unpasses;
-use sbox::inv_table;
-use sbox::table;
+use cipher::inverse_words;
 use schedule::KeyAnswer;
 use schedule::KeySchedule;
+use tables::forward_table;
+use tables::inverse_table;
 ghost use mathlib.Core.Path.{_≡_};
 ghost use Prim.Native.Nat.{_+_, _-_, _%_, _≤_};
 ghost use lib.ListN.{length};
@@ -17,7 +18,7 @@ ghost use Rattle.octets.specs.Octets.{padTo};
 ghost use Rattle.schedule.specs.Schedule.{keyNumber};
 ghost use Rattle.modes.specs.Modes.{over};
 ghost use Rattle.wrap.specs.Wrap.{wrapped, unwrapped};
-ghost use Rattle.wrap.specs.Lent.{lentEnc, lentDec, openedOver};
+ghost use Rattle.wrap.specs.Lent.{lent, openedOver};
 ghost use Rattle.wrap.specs.declared.WrapAnswer.the-variants.{WrapDone};
 ghost use Rattle.wrap.specs.Calls as spec;
 
@@ -36,8 +37,7 @@ pub fn wrap(key: &[u8], data: &[u8], output: &mut [u8]) -> WrapAnswer
     ensures answer { λ r. ⌜ r ≡ spec.wrapAnswer (now (key .entry)) (now («data» .entry)) (now (output .entry)) ⌝ }
     ensures written { λ r. ⌜ now (output .exit) ≡ spec.wrapOutput r (now (key .entry)) (now («data» .entry)) (now (output .entry)) ⌝ }
 {
-    let sbox = table();
-    let made = KeySchedule::with(&sbox, key);
+    let made = KeySchedule::new(key);
     let taken = made.answer;
     let schedule = made.schedule;
     let words = schedule.words;
@@ -45,7 +45,8 @@ pub fn wrap(key: &[u8], data: &[u8], output: &mut [u8]) -> WrapAnswer
     let WrapAnswer::WrapDone = answer else {
         return answer;
     };
-    wrap_into(&sbox, &words, schedule.rounds, data, output);
+    let table = forward_table();
+    wrap_into(&table, &words, schedule.rounds, data, output);
     answer
 }
 
@@ -55,8 +56,7 @@ pub fn unwrap(key: &[u8], data: &[u8], output: &mut [u8]) -> WrapAnswer
     ensures answer { λ r. ⌜ r ≡ spec.unwrapAnswer (now (key .entry)) (now («data» .entry)) (now (output .entry)) ⌝ }
     ensures written { λ r. ⌜ now (output .exit) ≡ spec.unwrapOutput r (now (key .entry)) (now («data» .entry)) (now (output .entry)) ⌝ }
 {
-    let sbox = table();
-    let made = KeySchedule::with(&sbox, key);
+    let made = KeySchedule::new(key);
     let taken = made.answer;
     let schedule = made.schedule;
     let words = schedule.words;
@@ -64,8 +64,9 @@ pub fn unwrap(key: &[u8], data: &[u8], output: &mut [u8]) -> WrapAnswer
     let WrapAnswer::WrapDone = answer else {
         return answer;
     };
-    let inv = inv_table();
-    unwrap_into(&inv, &words, schedule.rounds, data, output)
+    let back = inverse_words(&words, schedule.rounds);
+    let table = inverse_table();
+    unwrap_into(&table, &back, schedule.rounds, data, output)
 }
 
 // Whether key data may have this length.
@@ -126,30 +127,30 @@ fn judge_unwrap(key: KeyAnswer, len: usize, room: usize) -> WrapAnswer
 }
 
 // Nothing is refused from here on, so the registers stand in the output itself.
-fn wrap_into(sbox: &[u8; 256], words: &[u32; 60], rounds: usize, given: &[u8], output: &mut [u8])
+fn wrap_into(table: &[u32; 256], words: &[u32; 60], rounds: usize, given: &[u8], output: &mut [u8])
     requires { ⌜ (length (now given) ≤ 64) × (length (now given) % 8 ≡ 0) × (length (now given) + 8 ≤ length (now output)) ⌝ }
-    ensures { λ _. ⌜ now (output .exit) ≡ over (wrapped (lentEnc (now (sbox .entry)) (now (words .entry)) rounds) (now (given .entry))) (now (output .entry)) ⌝ }
+    ensures { λ _. ⌜ now (output .exit) ≡ over (wrapped (lent (now (table .entry)) (now (words .entry)) rounds) (now (given .entry))) (now (output .entry)) ⌝ }
 {
     let first = [0xa6u8; 8];
     copy(&first, output, 0);
     copy(given, output, 8);
     let len = given.len() + 8;
-    passes(sbox, words, rounds, given.len() / 8, &mut output[0..len]);
+    passes(table, words, rounds, given.len() / 8, &mut output[0..len]);
 }
 
 // Works in memory of its own: nothing of a wrapped key whose check is wrong reaches the output.
 fn unwrap_into(
-    inv: &[u8; 256],
+    table: &[u32; 256],
     words: &[u32; 60],
     rounds: usize,
     given: &[u8],
     output: &mut [u8],
 ) -> WrapAnswer
     requires { ⌜ (8 ≤ length (now given)) × (length (now given) ≤ 72) × (length (now given) % 8 ≡ 0) × (length (now given) ≤ length (now output) + 8) ⌝ }
-    ensures answer { λ r. ⌜ r ≡ spec.opening (lentDec (now (inv .entry)) (now (words .entry)) rounds) (now (given .entry)) ⌝ }
-    ensures written { λ r. ⌜ now (output .exit) ≡ openedOver (lentDec (now (inv .entry)) (now (words .entry)) rounds) (now (given .entry)) (now (output .entry)) ⌝ }
+    ensures answer { λ r. ⌜ r ≡ spec.opening (lent (now (table .entry)) (now (words .entry)) rounds) (now (given .entry)) ⌝ }
+    ensures written { λ r. ⌜ now (output .exit) ≡ openedOver (lent (now (table .entry)) (now (words .entry)) rounds) (now (given .entry)) (now (output .entry)) ⌝ }
 {
-    let w = opened(inv, words, rounds, given);
+    let w = opened(table, words, rounds, given);
     if !is_initial(&w) {
         return WrapAnswer::WrongInitial;
     }
@@ -158,15 +159,15 @@ fn unwrap_into(
 }
 
 // The registers at the end, then zeros.
-fn opened(inv: &[u8; 256], words: &[u32; 60], rounds: usize, given: &[u8]) -> [u8; 72]
+fn opened(table: &[u32; 256], words: &[u32; 60], rounds: usize, given: &[u8]) -> [u8; 72]
     requires { ⌜ (8 ≤ length (now given)) × (length (now given) ≤ 72) × (length (now given) % 8 ≡ 0) ⌝ }
-    ensures registers { λ r. ⌜ r ≡ padTo 72 (unwrapped (lentDec (now (inv .entry)) (now (words .entry)) rounds) (now (given .entry))) ⌝ }
-    ensures size { λ _. ⌜ length (unwrapped (lentDec (now (inv .entry)) (now (words .entry)) rounds) (now (given .entry))) ≡ length (now (given .entry)) ⌝ }
+    ensures registers { λ r. ⌜ r ≡ padTo 72 (unwrapped (lent (now (table .entry)) (now (words .entry)) rounds) (now (given .entry))) ⌝ }
+    ensures size { λ _. ⌜ length (unwrapped (lent (now (table .entry)) (now (words .entry)) rounds) (now (given .entry))) ≡ length (now (given .entry)) ⌝ }
 {
     let mut w = [0u8; 72];
     copy(given, &mut w, 0);
     unpasses(
-        inv,
+        table,
         words,
         rounds,
         given.len() / 8 - 1,

@@ -8,69 +8,69 @@ ghost use mathlib.Core.Path.{_≡_};
 ghost use Prim.Native.Nat.{_+_, _*_, _≤_, _<_};
 ghost use lib.ListN.{length};
 ghost use Rattle.wrap.specs.Wrap as spec;
-ghost use Rattle.wrap.specs.Lent.{lentEnc, lentDec};
+ghost use Rattle.wrap.specs.Lent.{lent};
 
 // B = AES(K, A | R[i]), then A = MSB(64, B) ^ t and R[i] = LSB(64, B).
-fn step(sbox: &[u8; 256], words: &[u32; 60], rounds: usize, t: usize, i: usize, w: &mut [u8])
+fn step(table: &[u32; 256], words: &[u32; 60], rounds: usize, t: usize, i: usize, w: &mut [u8])
     requires { ⌜ (1 ≤ i) × (8 * i + 8 ≤ length (now w)) × (t < 256) ⌝ }
-    ensures { λ _. ⌜ now (w .exit) ≡ spec.step (lentEnc (now (sbox .entry)) (now (words .entry)) rounds) t i (now (w .entry)) ⌝ }
+    ensures { λ _. ⌜ now (w .exit) ≡ spec.step (lent (now (table .entry)) (now (words .entry)) rounds) t i (now (w .entry)) ⌝ }
 {
     let given = pair(w, i);
-    let made = encrypt_block(sbox, words, rounds, given);
+    let made = encrypt_block(table, words, rounds, given);
     put_back(w, i, counted(made, t));
 }
 
 // For i = 1 to n, with t = n j + i.
-fn pass(sbox: &[u8; 256], words: &[u32; 60], rounds: usize, n: usize, j: usize, w: &mut [u8])
+fn pass(table: &[u32; 256], words: &[u32; 60], rounds: usize, n: usize, j: usize, w: &mut [u8])
     requires { ⌜ (length (now w) ≡ 8 * n + 8) × (n ≤ 8) × (j < 6) ⌝ }
-    ensures { λ _. ⌜ now (w .exit) ≡ spec.pass (lentEnc (now (sbox .entry)) (now (words .entry)) rounds) n j n (now (w .entry)) ⌝ }
+    ensures { λ _. ⌜ now (w .exit) ≡ spec.pass (lent (now (table .entry)) (now (words .entry)) rounds) n j n (now (w .entry)) ⌝ }
 {
     for m in 0..n {
         let i = m + 1;
-        step(sbox, words, rounds, n * j + i, i, w);
+        step(table, words, rounds, n * j + i, i, w);
     }
 }
 
 // For j = 0 to 5.
-pub fn passes(sbox: &[u8; 256], words: &[u32; 60], rounds: usize, n: usize, w: &mut [u8])
+pub fn passes(table: &[u32; 256], words: &[u32; 60], rounds: usize, n: usize, w: &mut [u8])
     requires { ⌜ (length (now w) ≡ 8 * n + 8) × (n ≤ 8) ⌝ }
-    ensures { λ _. ⌜ now (w .exit) ≡ spec.passes (lentEnc (now (sbox .entry)) (now (words .entry)) rounds) n 6 (now (w .entry)) ⌝ }
+    ensures { λ _. ⌜ now (w .exit) ≡ spec.passes (lent (now (table .entry)) (now (words .entry)) rounds) n 6 (now (w .entry)) ⌝ }
 {
     for j in 0..6 {
-        pass(sbox, words, rounds, n, j, w);
+        pass(table, words, rounds, n, j, w);
     }
 }
 
 // B = AES-1(K, (A ^ t) | R[i]), then A = MSB(64, B) and R[i] = LSB(64, B).
-fn unstep(inv: &[u8; 256], words: &[u32; 60], rounds: usize, t: usize, i: usize, w: &mut [u8])
+fn unstep(table: &[u32; 256], words: &[u32; 60], rounds: usize, t: usize, i: usize, w: &mut [u8])
     requires { ⌜ (1 ≤ i) × (8 * i + 8 ≤ length (now w)) × (t < 256) ⌝ }
-    ensures { λ _. ⌜ now (w .exit) ≡ spec.unstep (lentDec (now (inv .entry)) (now (words .entry)) rounds) t i (now (w .entry)) ⌝ }
+    ensures { λ _. ⌜ now (w .exit) ≡ spec.unstep (lent (now (table .entry)) (now (words .entry)) rounds) t i (now (w .entry)) ⌝ }
 {
     let given = counted(pair(w, i), t);
-    let made = decrypt_block(inv, words, rounds, given);
+    let made = decrypt_block(table, words, rounds, given);
     put_back(w, i, made);
 }
 
 // For i = n to 1, with t = n j + i.
-fn unpass(inv: &[u8; 256], words: &[u32; 60], rounds: usize, n: usize, j: usize, w: &mut [u8])
+fn unpass(table: &[u32; 256], words: &[u32; 60], rounds: usize, n: usize, j: usize, w: &mut [u8])
     requires { ⌜ (length (now w) ≡ 8 * n + 8) × (n ≤ 8) × (j < 6) ⌝ }
-    ensures { λ _. ⌜ now (w .exit) ≡ spec.unpass (lentDec (now (inv .entry)) (now (words .entry)) rounds) n j n (now (w .entry)) ⌝ }
+    ensures { λ _. ⌜ now (w .exit) ≡ spec.unpass (lent (now (table .entry)) (now (words .entry)) rounds) n j n (now (w .entry)) ⌝ }
 {
     let mut i = n;
     while i > 0 {
-        unstep(inv, words, rounds, n * j + i, i, w);
+        unstep(table, words, rounds, n * j + i, i, w);
         i -= 1;
     }
 }
 
 // For j = 5 to 0.
-pub fn unpasses(inv: &[u8; 256], words: &[u32; 60], rounds: usize, n: usize, w: &mut [u8])
+pub fn unpasses(table: &[u32; 256], words: &[u32; 60], rounds: usize, n: usize, w: &mut [u8])
     requires { ⌜ (length (now w) ≡ 8 * n + 8) × (n ≤ 8) ⌝ }
-    ensures { λ _. ⌜ now (w .exit) ≡ spec.unpasses (lentDec (now (inv .entry)) (now (words .entry)) rounds) n 6 (now (w .entry)) ⌝ }
+    ensures { λ _. ⌜ now (w .exit) ≡ spec.unpasses (lent (now (table .entry)) (now (words .entry)) rounds) n 6 (now (w .entry)) ⌝ }
 {
     let mut j = 6;
     while j > 0 {
         j -= 1;
-        unpass(inv, words, rounds, n, j, w);
+        unpass(table, words, rounds, n, j, w);
     }
 }

@@ -8,8 +8,8 @@ use borrow.Author.Needs.{needs}
 use Rattle.cmac.proofs.close.Statement.{statement}
 use Rattle.cmac.proofs.close.Tie as tie
 
-table-requires : tie.Need-table-requires
-table-requires c κs = search needs
+forward-table-requires : tie.Need-forward-table-requires
+forward-table-requires c κs = search needs
 
 run-of-requires : tie.Need-run-of-requires
 run-of-requires c κs = search needs
@@ -23,7 +23,7 @@ returns c =
     let x = s .args .«record» in
     let o : Octets 16 (x .chain) = record { size = search needs; bytes = λ k. (let h : Fits w8 (getD (x .chain) k 0) = search needs in h .fits) } in
     let p : Octets 16 (x .held) = record { size = search needs; bytes = λ k. (let h : Fits w8 (getD (x .held) k 0) = search needs in h .fits) } in
-    close-under x o p _ (c .before .before .before .before .before .table .ensures) _ (c .closed .ensures ∙ rw (c .before .before .before .run-of .ensures))
+    close-under x o p _ (c .before .before .before .before .before .forward-table .ensures) _ (c .closed .ensures ∙ rw (c .before .before .before .run-of .ensures))
 
 pub close-spec : {M : Type 1} → statement M
-close-spec = tie.close (tie.spec table-requires run-of-requires closed-requires returns)
+close-spec = tie.close (tie.spec forward-table-requires run-of-requires closed-requires returns)

@@ -31,7 +31,7 @@ returns : tie.Need-returns
 returns c =
     let a = c .before .before .before .before .before .args in
     let n = c .before .before .before .earlier .result in
-    taken-holding (lent (now (a .sbox)) (now (a .words)) (a .rounds)) (a .chain) (now (a .part)) n _ _ _
+    taken-holding (lent (now (a .table)) (now (a .words)) (a .rounds)) (a .chain) (now (a .part)) n _ _ _
     (c .before .before .before .earlier .ensures) (c .before .before .chained .ensures) (to-end (now (a .part)) (n * 16)) (c .filled .ensures)
 
 pub taken-in-spec : {M : Type 1} → statement M

@@ -11,8 +11,7 @@ use mathlib.Core.List.{List, _++_}
 use Prim.Native.Nat.{ℕ, _+_, _*_, _-_, _≤_}
 use denote.Ref.{now}
 use lib.ListN.{length, drop}
-use Rattle.sbox.specs.Sbox.{entry}
-use Rattle.cipher.specs.Cipher.{blockCipher}
+use Rattle.cipher.specs.Tables.{oneTable}
 use Rattle.modes.specs.Pieces.{made, after}
 use Rattle.modes.specs.Modes.{machine}
 use borrow.Author.Needs.{needs}
@@ -21,13 +20,13 @@ use Rattle.modes.proofs.run.Statement.{statement}
 use Rattle.modes.proofs.run.Tie as tie
 
 abbrev Inv-loop : tie.InvT-loop
-Inv-loop sbox inv words rounds mode way input output₀ n chain₀ i₀ output chain i =
-    let m = machine (blockCipher (entry sbox) (entry inv) words rounds) mode way in
+Inv-loop table words rounds mode way input output₀ n chain₀ i₀ output chain i =
+    let m = machine (oneTable table words rounds) mode way in
     (i ≤ n) × (length output ≡ length output₀) × (length (made 16 m chain₀ i input) ≡ i * 16)
     × (chain ≡ after 16 m chain₀ i input) × (output ≡ made 16 m chain₀ i input ++ drop (i * 16) output₀)
 
 abbrev μ-loop : tie.MeasureT-loop
-μ-loop sbox inv words rounds mode way input output₀ n chain₀ i₀ output chain i = n - i
+μ-loop table words rounds mode way input output₀ n chain₀ i₀ output chain i = n - i
 
 in-common-requires : tie.Need-in-common-requires Inv-loop μ-loop
 in-common-requires c κs = search needs
@@ -65,7 +64,7 @@ loop-again c =
     let l = c .before .before .before .before .before .before .before .before .before .loop in
     let a = c .before .before .before .before .before .before .before .before .before .before .before .before .before .args in
     let inp = now (a .input) in
-    let m = machine (blockCipher (entry (now (a .sbox))) (entry (now (a .inv))) (now (a .words)) (a .rounds)) (a .mode) (a .way) in
+    let m = machine (oneTable (now (a .table)) (now (a .words)) (a .rounds)) (a .mode) (a .way) in
     let st = after 16 m (a .iv) (l .i) inp in
     let h : length (s .result .out) ≡ 16 = search needs in
     let k = common-le (length inp) (length (now (a .output))) in

@@ -5,11 +5,8 @@ use borrow.Author.Needs.{needs}
 use Rattle.wrap.proofs.wrap.Statement.{statement}
 use Rattle.wrap.proofs.wrap.Tie as tie
 
-table-requires : tie.Need-table-requires
-table-requires c κs = search needs
-
-with-requires : tie.Need-with-requires
-with-requires c κs = search needs
+new-requires : tie.Need-new-requires
+new-requires c κs = search needs
 
 judge-wrap-requires : tie.Need-judge-wrap-requires
 judge-wrap-requires c κs = search needs
@@ -20,20 +17,22 @@ enum-told c = search needs
 returns : tie.Need-returns
 returns c =
     let j = c .before .judge-wrap in
-    let w = c .before .before .before .before .with in
-    let t = c .before .before .before .before .before .before .table in
-    let a = c .before .before .before .before .before .before .before .before .before .before .args in (
-      wrap-answered (a .key .now) _ _ (t .ensures) (w .ensures) (a .«data» .now) (a .output .now) _ (j .ensures),
+    let w = c .before .before .before .before in
+    let a = w .before .before .before .before .args in (
+      wrap-answered (a .key .now) _ (w .new .ensures) (a .«data» .now) (a .output .now) _ (j .ensures),
       wrap-kept (j .result) (a .key .now) (a .«data» .now) (a .output .now) (c .match .keys2),
     )
 
+forward-table-requires : tie.Need-forward-table-requires
+forward-table-requires c κs = search needs
+
 wrap-into-requires : tie.Need-wrap-into-requires
 wrap-into-requires c κs =
-    let e = c .before .before .before in
+    let e = c .before .before .before .before in
     let j = e .before .before in
     let w = j .before .before .before in
-    let a = w .before .before .before .before .before .before .args in
-    wrap-fits (a .key .now) _ _ (w .before .before .table .ensures) (w .with .ensures) (a .«data» .now) (a .output .now) _ (j .judge-wrap .ensures) (e .enum-told .given .1)
+    let a = w .before .before .before .before .args in
+    wrap-fits (a .key .now) _ (w .new .ensures) (a .«data» .now) (a .output .now) _ (j .judge-wrap .ensures) (e .enum-told .given .1)
 
 same-length : tie.Need-same-length
 same-length c = search needs
@@ -41,25 +40,25 @@ same-length c = search needs
 returns-2 : tie.Need-returns-2
 returns-2 c =
     let i = c .before .before in
-    let e = i .before .before .before .before in
+    let t = i .before .before .before .before in
+    let e = t .before in
     let j = e .before .before in
     let w = j .before .before .before in
-    let s = w .before .before .before .before .before .before in
-    let a = s .args in
-    let b : Bytes (a .«data» .now) = λ k. omega (arith, w .before .before .before .before .shared-slice-known2 .given k) in (
-      wrap-answered (a .key .now) _ _ (w .before .before .table .ensures) (w .with .ensures) (a .«data» .now) (a .output .now) _ (j .judge-wrap .ensures),
-      wrapped-by (a .key .now) _ _ (w .before .before .table .ensures) (w .with .ensures) (a .«data» .now) (a .output .now) _ (j .judge-wrap .ensures) (e .enum-told .given .1) _ b (i .wrap-into .ensures),
+    let a = w .before .before .before .before .args in
+    let b : Bytes (a .«data» .now) = λ k. omega (arith, w .before .before .shared-slice-known2 .given k) in (
+      wrap-answered (a .key .now) _ (w .new .ensures) (a .«data» .now) (a .output .now) _ (j .judge-wrap .ensures),
+      wrapped-by (a .key .now) _ (w .new .ensures) (a .«data» .now) (a .output .now) _ (j .judge-wrap .ensures) (e .enum-told .given .1) _ _ (t .forward-table .ensures) b (i .wrap-into .ensures),
     )
 
 pub wrap-spec : {M : Type 1} → statement M
 wrap-spec =
     tie.close
     (tie.spec
-    table-requires
-    with-requires
+    new-requires
     judge-wrap-requires
     enum-told
     returns
+    forward-table-requires
     wrap-into-requires
     same-length
     returns-2)

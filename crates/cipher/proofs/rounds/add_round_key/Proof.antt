@@ -1,6 +1,5 @@
-use denote.Ref.{now}
+use Rattle.cipher.specs.Tables.{keyed}
 use Rattle.octets.specs.Octets.{xor}
-use Rattle.cipher.proofs.Columns.{add-law}
 use borrow.Author.Needs.{needs}
 use Rattle.cipher.proofs.rounds.add_round_key.Statement.{statement}
 use Rattle.cipher.proofs.rounds.add_round_key.Tie as tie
@@ -42,11 +41,8 @@ element-copy-out-t27 : tie.Need-element-copy-out-t27
 element-copy-out-t27 c = search needs
 
 returns : tie.Need-returns
-unfolding xor
-returns c =
-    let a = c .before .before .before .before .before .before .before .before .before .args in
-    rw (c .before .before .before .before .before .before .before .before .first-word .ensures)
-    (add-law (now (a .words)) (a .n .0) (a .s .0) (a .s .1) (a .s .2) (a .s .3))
+unfolding keyed xor
+returns c = rw (c .before .before .before .before .before .before .before .before .first-word .ensures)
 
 pub add-round-key-spec : {M : Type 1} → statement M
 add-round-key-spec =

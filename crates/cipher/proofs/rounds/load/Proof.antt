@@ -1,9 +1,5 @@
-use mathlib.Core.Path.{_∙_}
-use Prim.Native.Nat.{ℕ, _<_}
-use mir.Val.{Fits}
-use mir.Syntax.{w8}
-use lib.ListN.{getD}
-use Rattle.cipher.proofs.Columns.{same-four, load-law}
+use Rattle.cipher.proofs.Columns.{same-columns}
+use Rattle.cipher.specs.Columns.{columnsOf}
 use borrow.Author.Needs.{needs}
 use Rattle.cipher.proofs.rounds.load.Statement.{statement}
 use Rattle.cipher.proofs.rounds.load.Tie as tie
@@ -69,11 +65,8 @@ join-requires-4 : tie.Need-join-requires-4
 join-requires-4 c κs = search needs
 
 returns : tie.Need-returns
-returns c =
-    let s = c .before .before .before .before .args .t1 in
-    let lt : (k : ℕ) → getD s k 0 < 256 = λ k. (let h : Fits w8 (getD s k 0) = search needs in h .fits) in
-    same-four (c .before .before .before .join .ensures) (c .before .before .join2 .ensures) (c .before .join3 .ensures) (c .join4 .ensures)
-    ∙ load-law s (c .before .before .before .before .good .0 .1 .0 .1) lt
+unfolding columnsOf
+returns c = same-columns (c .before .before .before .join .ensures) (c .before .before .join2 .ensures) (c .before .join3 .ensures) (c .join4 .ensures)
 
 pub load-spec : {M : Type 1} → statement M
 load-spec =

@@ -1,5 +1,5 @@
-use mathlib.Core.Path.{_∙_}
-use Rattle.cipher.proofs.Columns.{same-four, mix-law}
+use Rattle.cipher.proofs.Columns.{same-columns}
+use Rattle.cipher.specs.Tables as spec
 use borrow.Author.Needs.{needs}
 use Rattle.cipher.proofs.rounds.mix_columns.Statement.{statement}
 use Rattle.cipher.proofs.rounds.mix_columns.Tie as tie
@@ -17,10 +17,7 @@ mix-column-requires-4 : tie.Need-mix-column-requires-4
 mix-column-requires-4 c κs = search needs
 
 returns : tie.Need-returns
-returns c =
-    let s = c .before .before .before .before .args .s in
-    same-four (c .before .before .before .mix-column .ensures) (c .before .before .mix-column2 .ensures) (c .before .mix-column3 .ensures) (c .mix-column4 .ensures)
-    ∙ mix-law (s .0) (s .1) (s .2) (s .3)
+returns c = same-columns (c .before .before .before .mix-column .ensures) (c .before .before .mix-column2 .ensures) (c .before .mix-column3 .ensures) (c .mix-column4 .ensures)
 
 pub mix-columns-spec : {M : Type 1} → statement M
 mix-columns-spec =

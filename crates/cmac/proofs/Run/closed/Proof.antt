@@ -1,3 +1,4 @@
+use mathlib.Core.Path.{_∙_}
 use Rattle.cmac.specs.Cmac.{ended}
 use Rattle.cmac.specs.Running as running
 use borrow.Author.Needs.{needs}
@@ -15,7 +16,7 @@ encrypt-block-requires c κs = search needs
 
 returns : tie.Need-returns
 unfolding running.closed ended
-returns c = cc
+returns c = c .encrypt-block .ensures ∙ rw (c .before .xor .ensures, c .before .before .last .ensures)
 
 pub closed-spec : {M : Type 1} → statement M
 closed-spec = tie.close (tie.spec last-requires xor-requires encrypt-block-requires returns)

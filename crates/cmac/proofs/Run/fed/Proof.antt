@@ -26,7 +26,7 @@ returns c =
     let x = s .args .self in
     let size : length (x .held) ≡ 16 = search needs in
     rw (c .before .filled .ensures, c .before .before .room-after .ensures)
-    (fed-room (x .held) size (lent (now (s .args .sbox)) (now (s .args .words)) (s .args .rounds)) (x .chain) (x .count) (now (s .args .part)) (search needs))
+    (fed-room (x .held) size (lent (now (s .args .table)) (now (s .args .words)) (s .args .rounds)) (x .chain) (x .count) (now (s .args .part)) (search needs))
 
 xor-requires : tie.Need-xor-requires
 xor-requires c κs = search needs
@@ -52,7 +52,7 @@ returns-2 c =
     let x = s .args .self in
     let size : length (x .held) ≡ 16 = search needs in
     c .taken-in .ensures ∙ rw (c .before .before .encrypt-block .ensures, c .before .before .before .xor .ensures, c .before .before .before .before .before .filled .ensures, c .before .before .before .before .before .before .room-after .ensures, to-end (now (s .args .part)) (16 - x .count))
-    (fed-over (x .held) size (lent (now (s .args .sbox)) (now (s .args .words)) (s .args .rounds)) (x .chain) (x .count) (now (s .args .part)) (search needs))
+    (fed-over (x .held) size (lent (now (s .args .table)) (now (s .args .words)) (s .args .rounds)) (x .chain) (x .count) (now (s .args .part)) (search needs))
 
 pub fed-spec : {M : Type 1} → statement M
 fed-spec =

@@ -11,10 +11,10 @@ use Rattle.cmac.proofs.pieces.chained.Statement.{statement}
 use Rattle.cmac.proofs.pieces.chained.Tie as tie
 
 abbrev Inv-loop : tie.InvT-loop
-Inv-loop sbox words rounds n part value₀ i₀ value i = (i ≤ n) × (spec.chained (lent sbox words rounds) value (n - i) (drop (i * 16) part) ≡ spec.chained (lent sbox words rounds) value₀ n part)
+Inv-loop table words rounds n part value₀ i₀ value i = (i ≤ n) × (spec.chained (lent table words rounds) value (n - i) (drop (i * 16) part) ≡ spec.chained (lent table words rounds) value₀ n part)
 
 abbrev μ-loop : tie.MeasureT-loop
-μ-loop sbox words rounds n part value₀ i₀ value i = n - i
+μ-loop table words rounds n part value₀ i₀ value i = n - i
 
 loop-holds : tie.Need-loop-holds Inv-loop μ-loop
 loop-holds c = (search needs, rw sub-zero)
@@ -41,7 +41,7 @@ loop-again : tie.Need-loop-again Inv-loop μ-loop
 loop-again c =
     let a = c .before .before .before .before .before .before .args in
     let l = c .before .before .before .before .loop in
-    let turn = chained-turn (lent (now (a .sbox)) (now (a .words)) (a .rounds)) (l .value) (now (a .part)) (l .i) (a .n) (c .before .before .before .loop-test .taken) (search needs) in (
+    let turn = chained-turn (lent (now (a .table)) (now (a .words)) (a .rounds)) (l .value) (now (a .part)) (l .i) (a .n) (c .before .before .before .loop-test .taken) (search needs) in (
       search needs,
       rw (c .encrypt-block .ensures, c .before .xor .ensures, c .before .before .load .ensures) (sym turn ∙ l .inv .1),
     )
@@ -50,7 +50,7 @@ returns : tie.Need-returns Inv-loop μ-loop
 returns c =
     let a = c .before .before .before .args in
     let l = c .before .loop in
-    sym (chained-end (lent (now (a .sbox)) (now (a .words)) (a .rounds)) (l .value) (drop (l .i * 16) (now (a .part))) (l .i) (a .n) (c .loop-test .left)) ∙ l .inv .1
+    sym (chained-end (lent (now (a .table)) (now (a .words)) (a .rounds)) (l .value) (drop (l .i * 16) (now (a .part))) (l .i) (a .n) (c .loop-test .left)) ∙ l .inv .1
 
 pub chained-spec : {M : Type 1} → statement M
 chained-spec =

@@ -33,7 +33,7 @@ returns c =
     let size : length (s .args .held) ≡ 16 = search needs in
     let key = c .before .before .before .before in
     c .xor .ensures ∙ rw (c .before .filled .ensures, key .doubled2 .ensures, key .before .doubled .ensures, key .before .before .encrypt-block .ensures)
-    (last-short (s .args .held) size (lent (now (s .args .sbox)) (now (s .args .words)) (s .args .rounds)) (s .args .count) (search needs))
+    (last-short (s .args .held) size (lent (now (s .args .table)) (now (s .args .words)) (s .args .rounds)) (s .args .count) (search needs))
 
 xor-requires-2 : tie.Need-xor-requires-2
 xor-requires-2 c κs = search needs
@@ -43,7 +43,7 @@ unfolding key1
 returns-2 c =
     let s = c .before .before .before .before .before in
     let size : length (s .args .held) ≡ 16 = search needs in
-    cc (last-full (s .args .held) size (lent (now (s .args .sbox)) (now (s .args .words)) (s .args .rounds)) (s .args .count) (search needs))
+    cc (last-full (s .args .held) size (lent (now (s .args .table)) (now (s .args .words)) (s .args .rounds)) (s .args .count) (search needs))
 
 pub last-spec : {M : Type 1} → statement M
 last-spec =

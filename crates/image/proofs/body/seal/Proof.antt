@@ -1,5 +1,4 @@
 use Rattle.image.proofs.Sealing.{seal-by}
-use Rattle.image.specs.Lent.{lentBoth}
 use Rattle.cmac.specs.Running.{lent}
 use mathlib.Core.Path.{refl}
 use borrow.Author.Needs.{needs}
@@ -60,8 +59,8 @@ returns c =
     let fl = st .before .before in
     let s = fl .before .before .before .before .before in
     let a = s .args in
-    seal-by (lentBoth (a .sbox .now) (a .inv .now) (a .ewords .now) (a .rounds .enc)) (lent (a .sbox .now) (a .cwords .now) (a .rounds .chk)) (a .head) (a .payload .now) (a .output .now) (s .pre .0) (s .pre .1)
-    _ _ _ _ _ _ _ _ (fl .before .before .head-bytes .ensures) (fl .before .encrypt-block .ensures) (fl .filled .ensures) (st .store .ensures) (rn .run .ensures) (rn .run .kept .1 .1 .1 .1 .1 .1 .1 .1 .0) refl (ck .check-with .ensures) (ck .check-with .ok .1 .0 .1) (st2 .store2 .ensures)
+    seal-by (lent (a .forth .now) (a .ewords .now) (a .rounds .enc)) (lent (a .forth .now) (a .cwords .now) (a .rounds .chk)) (a .head) (a .payload .now) (a .output .now) (s .pre .0) (s .pre .1)
+    _ _ _ _ _ _ _ _ (fl .before .before .head-bytes .ensures) (fl .before .encrypt-block .ensures) (fl .filled .ensures) (st .store .ensures) (rn .run .ensures) (rn .run .kept .1 .1 .1 .1 .1 .1 .1 .0) refl (ck .check-with .ensures) (ck .check-with .ok .1 .0 .1) (st2 .store2 .ensures)
 
 pub seal-spec : {M : Type 1} → statement M
 seal-spec =

@@ -1,14 +1,12 @@
-use mathlib.Core.List.{List}
-use Prim.Native.Nat.{ℕ}
-use lib.Seq.{paste}
+use Rattle.image.proofs.Opening.{opened-size, encrypt-sized, decrypt-sized}
+use Rattle.sbox.specs.Sbox.{entry}
 use Rattle.header.specs.Rules.{firstOf, headTests}
 use Rattle.header.specs.declared.Head.{Head}
 use Rattle.image.proofs.Judged.{refused-not, judged-last, judged-check, judged-head, judged-fill, judged-passed, after-refused}
 use Rattle.image.proofs.Bytes.{flip, head-loaded, fill-by}
 use Rattle.image.specs.Lent.{lentBoth, lentKeys}
 use Rattle.image.specs.Sealed.{opened}
-use lib.ListN.{length}
-use mathlib.Core.Path.{_≡_, refl, sym, ap, _∙_}
+use mathlib.Core.Path.{refl, sym, ap, _∙_}
 use borrow.Author.Needs.{needs}
 use Rattle.image.proofs.turns.read_block.Statement.{statement}
 use Rattle.image.proofs.turns.read_block.Tie as tie
@@ -19,7 +17,7 @@ complete-requires c κs = search needs
 returns : tie.Need-returns
 returns c =
     let a = c .before .before .before .before .args in
-    let k = lentKeys (a .sbox .now) (a .inv .now) (a .ewords .now) (a .cwords .now) (a .rounds) in
+    let k = lentKeys (a .forth .now) (a .back .now) (a .ewords .now) (a .dwords .now) (a .cwords .now) (a .rounds) in
     (judged-last k (a .progress) (a .block .now) (sym (c .before .complete .ensures) ∙ c .if1 .taken), (refl, λ e. refused-not _ _ refl e))
 
 check-holds-requires : tie.Need-check-holds-requires
@@ -29,7 +27,7 @@ returns-2 : tie.Need-returns-2
 returns-2 c =
     let d = c .before .before in
     let a = d .before .before .before .before .args in
-    let k = lentKeys (a .sbox .now) (a .inv .now) (a .ewords .now) (a .cwords .now) (a .rounds) in
+    let k = lentKeys (a .forth .now) (a .back .now) (a .ewords .now) (a .dwords .now) (a .cwords .now) (a .rounds) in
     (judged-check k (a .progress) (a .block .now) (sym (d .before .complete .ensures) ∙ d .if1 .left) (sym (c .before .check-holds .ensures) ∙ flip _ (c .if2 .taken)), (refl, λ e. refused-not _ _ refl e))
 
 load-requires : tie.Need-load-requires
@@ -55,75 +53,66 @@ returns-3 c =
     let s = d .before .before .before .before in
     let a = s .args in
     let b = a .block .now in
-    let k = lentKeys (a .sbox .now) (a .inv .now) (a .ewords .now) (a .cwords .now) (a .rounds) in
+    let k = lentKeys (a .forth .now) (a .back .now) (a .ewords .now) (a .dwords .now) (a .cwords .now) (a .rounds) in
     let e = head-loaded b (s .pre .0) _ _ (h .before .before .load .ensures) (h .before .head-of .ensures) in
     let v = h .judge-head .ensures ∙ ap (λ (x : Head). firstOf (headTests (a .progress) x)) e in
     let r = c .enum-told2 .given .1 in (
       judged-head k (a .progress) b (sym (d .before .complete .ensures) ∙ d .if1 .left) (sym (m .before .check-holds .ensures) ∙ flip _ (m .if2 .left)) _ _ v r,
       (
-        after-refused _ _ r (opened (lentBoth (a .sbox .now) (a .inv .now) (a .ewords .now) (a .rounds .enc)) b) (a .at) (a .output .now),
+        after-refused _ _ r (opened (lentBoth (a .forth .now) (a .back .now) (a .ewords .now) (a .dwords .now) (a .rounds .enc)) b) (a .at) (a .output .now),
         λ f. refused-not _ _ r f,
       ),
     )
 
-opened-requires : tie.Need-opened-requires
-opened-requires c κs = search needs
+cast-len : tie.Need-cast-len
+cast-len c = search needs
 
-slice-aggregate-zero-from : tie.Need-slice-aggregate-zero-from
-slice-aggregate-zero-from c = search needs
-
-cast-zero-from : tie.Need-cast-zero-from
-cast-zero-from c = search needs
-
-zero-from-requires : tie.Need-zero-from-requires
-zero-from-requires c κs = search needs
+fill-is-zero-requires : tie.Need-fill-is-zero-requires
+fill-is-zero-requires c κs = search needs
 
 returns-4 : tie.Need-returns-4
 returns-4 c =
-    let o = c .before .before .before .before in
-    let h = o .before .before .before in
+    let q = c .before .before .before in
+    let h = q .before .before in
     let m = h .before .before .before in
     let d = m .before .before in
     let s = d .before .before .before .before in
     let a = s .args in
     let b = a .block .now in
-    let k = lentKeys (a .sbox .now) (a .inv .now) (a .ewords .now) (a .cwords .now) (a .rounds) in
+    let k = lentKeys (a .forth .now) (a .back .now) (a .ewords .now) (a .dwords .now) (a .cwords .now) (a .rounds) in
     let e = head-loaded b (s .pre .0) _ _ (h .before .before .load .ensures) (h .before .head-of .ensures) in
-    let v = sym (o .before .enum-told .given .1) ∙ h .judge-head .ensures ∙ ap (λ (x : Head). firstOf (headTests (a .progress) x)) e in
-    let z = fill-by (k .enc) b _ e _ (o .opened .ensures) in (
+    let v = sym (q .enum-told .given .1) ∙ h .judge-head .ensures ∙ ap (λ (x : Head). firstOf (headTests (a .progress) x)) e in
+    let z = fill-by (k .enc) b _ e in (
       judged-fill k (a .progress) b (sym (d .before .complete .ensures) ∙ d .if1 .left) (sym (m .before .check-holds .ensures) ∙ flip _ (m .if2 .left)) v
-          (sym z ∙ sym (c .before .zero-from .ensures) ∙ flip _ (c .if3 .taken)),
+          (sym z ∙ sym (c .before .fill-is-zero .ensures) ∙ flip _ (c .if3 .taken)),
       (refl, λ f. refused-not _ _ refl f),
     )
 
-slice-aggregate-put : tie.Need-slice-aggregate-put
-slice-aggregate-put c = search needs
-
-put-requires : tie.Need-put-requires
-put-requires c κs = search needs
+open-into-requires : tie.Need-open-into-requires
+open-into-requires c κs = search needs
 
 same-length : tie.Need-same-length
 same-length c = search needs
 
 returns-5 : tie.Need-returns-5
 returns-5 c =
-    let t = c .before .before .before .before .before in
-    let o = t .before .before .before .before in
-    let h = o .before .before .before in
+    let t = c .before .before .before .before in
+    let q = t .before .before .before in
+    let h = q .before .before in
     let m = h .before .before .before in
     let d = m .before .before in
     let s = d .before .before .before .before in
     let a = s .args in
     let b = a .block .now in
-    let k = lentKeys (a .sbox .now) (a .inv .now) (a .ewords .now) (a .cwords .now) (a .rounds) in
+    let k = lentKeys (a .forth .now) (a .back .now) (a .ewords .now) (a .dwords .now) (a .cwords .now) (a .rounds) in
     let e = head-loaded b (s .pre .0) _ _ (h .before .before .load .ensures) (h .before .head-of .ensures) in
-    let v = sym (o .before .enum-told .given .1) ∙ h .judge-head .ensures ∙ ap (λ (x : Head). firstOf (headTests (a .progress) x)) e in
-    let z = fill-by (k .enc) b _ e _ (o .opened .ensures) in (
+    let v = sym (q .enum-told .given .1) ∙ h .judge-head .ensures ∙ ap (λ (x : Head). firstOf (headTests (a .progress) x)) e in
+    let z = fill-by (k .enc) b _ e in (
       judged-passed k (a .progress) b (sym (d .before .complete .ensures) ∙ d .if1 .left) (sym (m .before .check-holds .ensures) ∙ flip _ (m .if2 .left)) v
-          (sym z ∙ sym (t .before .zero-from .ensures) ∙ flip _ (t .if3 .left)),
+          (sym z ∙ sym (t .before .fill-is-zero .ensures) ∙ flip _ (t .if3 .left)),
       (
-        c .before .before .put .ensures ∙ ap (λ (x : List ℕ). paste (a .output .now) (a .at) x 480) (o .opened .ensures),
-        λ f. let l : length (o .opened .result) ≡ 480 = o .opened .ok .1 .0 .1 in sym (ap length (o .opened .ensures)) ∙ l,
+        c .before .before .open-into .ensures,
+        λ f. opened-size b (s .pre .0) (k .enc) (encrypt-sized (entry (a .forth .now)) (a .ewords .now) (a .rounds .enc)) (decrypt-sized (entry (a .back .now)) (a .dwords .now) (a .rounds .enc)),
       ),
     )
 
@@ -141,12 +130,9 @@ read-block-spec =
     enum-told
     enum-told-2
     returns-3
-    opened-requires
-    slice-aggregate-zero-from
-    cast-zero-from
-    zero-from-requires
+    cast-len
+    fill-is-zero-requires
     returns-4
-    slice-aggregate-put
-    put-requires
+    open-into-requires
     same-length
     returns-5)

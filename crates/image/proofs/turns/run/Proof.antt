@@ -16,13 +16,13 @@ use Rattle.image.proofs.turns.run.Statement.{statement}
 use Rattle.image.proofs.turns.run.Tie as tie
 
 abbrev Inv-loop : tie.InvT-loop
-Inv-loop sbox inv ewords cwords rounds blocks k output₀ state₀ bytes₀ j₀ output state bytes j =
+Inv-loop forth back ewords dwords cwords rounds blocks k output₀ state₀ bytes₀ j₀ output state bytes j =
     (j ≤ k) × (length output ≡ length output₀) × (bytes ≤ j * 65535)
-    × (finish j bytes output (ran (lentKeys sbox inv ewords cwords rounds) state (cut (k - j) (drop (j * 512) blocks)))
-    ≡ finish 0 0 output₀ (ran (lentKeys sbox inv ewords cwords rounds) state₀ (cut k blocks)))
+    × (finish j bytes output (ran (lentKeys forth back ewords dwords cwords rounds) state (cut (k - j) (drop (j * 512) blocks)))
+    ≡ finish 0 0 output₀ (ran (lentKeys forth back ewords dwords cwords rounds) state₀ (cut k blocks)))
 
 abbrev μ-loop : tie.MeasureT-loop
-μ-loop sbox inv ewords cwords rounds blocks k output₀ state₀ bytes₀ j₀ output state bytes j = k - j
+μ-loop forth back ewords dwords cwords rounds blocks k output₀ state₀ bytes₀ j₀ output state bytes j = k - j
 
 loop-holds : tie.Need-loop-holds Inv-loop μ-loop
 loop-holds c = (omega arith, refl, omega arith, rw sub-zero refl)
@@ -59,7 +59,7 @@ enum-known-verdict c = search needs
 same-length : tie.Need-same-length Inv-loop μ-loop
 same-length c =
     let call = c .before .before .before .before .before in
-    omega (arith, call .take-block .kept .1 .1 .1 .1 .1 .1 .1 .0, call .before .before .before .before .loop .inv .1)
+    omega (arith, call .take-block .kept .1 .1 .1 .1 .1 .1 .1 .1 .0, call .before .before .before .before .loop .inv .1)
 
 returns : tie.Need-returns Inv-loop μ-loop
 returns c =
@@ -68,7 +68,7 @@ returns c =
     let l = at-loop .loop in
     let a = at-loop .before .before .before .args in
     let o = call .take-block in
-    let k = lentKeys (a .sbox .now) (a .inv .now) (a .ewords .now) (a .cwords .now) (a .rounds) in
+    let k = lentKeys (a .forth .now) (a .back .now) (a .ewords .now) (a .dwords .now) (a .cwords .now) (a .rounds) in
     let t = ran k (a .progress) (cut (a .k) (a .blocks .now)) in
     let e = step-refused k (a .blocks .now) (l .state) (l .j) (a .k) (l .bytes) (l .output) (call .before .before .before .loop-test .taken) _ (part-is (a .blocks .now) (l .j)) _ (o .ensures .0) _ (o .ensures .1 .0) _ (c .before .verdict .given .1)
     ∙ l .inv .3 ∙ finish-start (a .output .now) t in
@@ -98,11 +98,11 @@ loop-again c =
     let l = at-loop .loop in
     let a = at-loop .before .before .before .args in
     let o = call .take-block in
-    let k = lentKeys (a .sbox .now) (a .inv .now) (a .ewords .now) (a .cwords .now) (a .rounds) in
+    let k = lentKeys (a .forth .now) (a .back .now) (a .ewords .now) (a .dwords .now) (a .cwords .now) (a .rounds) in
     let v = c .before .before .enum-told .given .1 in
     let w : Fits w16 (o .result .len) = search needs in (
       omega arith,
-      omega (arith, o .kept .1 .1 .1 .1 .1 .1 .1 .0, l .inv .1),
+      omega (arith, o .kept .1 .1 .1 .1 .1 .1 .1 .1 .0, l .inv .1),
       omega (arith, l .inv .2, w .fits),
       step-accepted k (a .blocks .now) (l .state) (l .j) (a .k) (l .bytes) (l .output) (call .before .before .before .loop-test .taken) _ (part-is (a .blocks .now) (l .j)) _ (o .ensures .0) _ (o .ensures .1 .0) v (o .ensures .1 .1 v) (omega (arith, l .inv .1))
           ∙ l .inv .3,
@@ -115,7 +115,7 @@ returns-2 : tie.Need-returns-2 Inv-loop μ-loop
 returns-2 c =
     let l = c .before .loop in
     let a = c .before .before .before .before .args in
-    let k = lentKeys (a .sbox .now) (a .inv .now) (a .ewords .now) (a .cwords .now) (a .rounds) in
+    let k = lentKeys (a .forth .now) (a .back .now) (a .ewords .now) (a .dwords .now) (a .cwords .now) (a .rounds) in
     let t = ran k (a .progress) (cut (a .k) (a .blocks .now)) in
     let e = left-end k (a .blocks .now) (l .state) (l .j) (a .k) (l .bytes) (l .output) (c .loop-test .left) ∙ l .inv .3 ∙ finish-start (a .output .now) t in
     (ap (λ (x : Ran × List ℕ). x .0) e, ap (λ (x : Ran × List ℕ). x .1) e)

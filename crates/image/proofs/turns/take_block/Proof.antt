@@ -40,7 +40,7 @@ advanced-requires c κs =
     let t = c .before .before in
     let rb = t .before .before .before .before in
     let a = rb .before .before .before .before .args in
-    accepted-next (lentKeys (a .sbox .now) (a .inv .now) (a .ewords .now) (a .cwords .now) (a .rounds)) (a .progress) (a .block .now) (sym (rb .read-block .ensures .0) ∙ t .enum-told .given .1)
+    accepted-next (lentKeys (a .forth .now) (a .back .now) (a .ewords .now) (a .dwords .now) (a .cwords .now) (a .rounds)) (a .progress) (a .block .now) (sym (rb .read-block .ensures .0) ∙ t .enum-told .given .1)
 
 same-length-2 : tie.Need-same-length-2
 same-length-2 c = search needs
