@@ -6,3 +6,4 @@ pub mod Undo
 pub mod Tables
 pub mod Lawful
 pub mod Padding
+pub mod Pairs

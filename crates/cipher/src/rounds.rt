@@ -8,9 +8,16 @@ ghost use Prim.Native.Nat.{_-_, _*_, _<_};
 ghost use Rattle.sbox.specs.Sbox.{entry};
 ghost use Rattle.cipher.specs.Columns.{blockOf, columnsOf};
 ghost use Rattle.cipher.specs.Tables.{keyed, lookedLast, tableRounds, tableForth, tableBack, mixedEach};
+ghost use Rattle.cipher.specs.Pairs.{bothStates};
 ghost use Rattle.cipher.specs.Tables as spec;
 
 pub struct Columns(pub u32, pub u32, pub u32, pub u32);
+
+// Two states on their way through the same rounds, neither of which waits for the other.
+pub struct TwoStates {
+    pub first: Columns,
+    pub second: Columns,
+}
 
 // Round keys and words are counted apart.
 pub struct RoundKeyNumber(pub usize);
@@ -75,8 +82,45 @@ pub fn inv_cipher(table: &[u32; 256], words: &[u32; 60], rounds: usize, s: Colum
     ensures { λ r. ⌜ r ≡ tableBack (entry (now (table .entry))) (now (words .entry)) rounds s ⌝ }
 {
     let t = rounds_before(table, words, rounds, mirrored(s));
-    let u = mix_columns(looked(table, t));
-    mirrored(add_round_key(words, RoundKeyNumber(rounds), u))
+    inv_last(table, words, rounds, t)
+}
+
+pub fn cipher_two(
+    table: &[u32; 256],
+    words: &[u32; 60],
+    rounds: usize,
+    a: Columns,
+    b: Columns,
+) -> TwoStates
+    requires { ⌜ (0 < rounds) × (rounds < 15) ⌝ }
+    ensures { λ r. ⌜ r ≡ bothStates (tableForth (entry (now (table .entry))) (now (words .entry)) rounds) a b ⌝ }
+{
+    let t = rounds_before_two(table, words, rounds, a, b);
+    let p = t.first;
+    let q = t.second;
+    TwoStates {
+        first: add_round_key(words, RoundKeyNumber(rounds), looked_last(table, p)),
+        second: add_round_key(words, RoundKeyNumber(rounds), looked_last(table, q)),
+    }
+}
+
+pub fn inv_cipher_two(
+    table: &[u32; 256],
+    words: &[u32; 60],
+    rounds: usize,
+    a: Columns,
+    b: Columns,
+) -> TwoStates
+    requires { ⌜ (0 < rounds) × (rounds < 15) ⌝ }
+    ensures { λ r. ⌜ r ≡ bothStates (tableBack (entry (now (table .entry))) (now (words .entry)) rounds) a b ⌝ }
+{
+    let t = rounds_before_two(table, words, rounds, mirrored(a), mirrored(b));
+    let p = t.first;
+    let q = t.second;
+    TwoStates {
+        first: inv_last(table, words, rounds, p),
+        second: inv_last(table, words, rounds, q),
+    }
 }
 
 // All rounds but the last.
@@ -89,6 +133,37 @@ fn rounds_before(table: &[u32; 256], words: &[u32; 60], rounds: usize, s: Column
         t = add_round_key(words, RoundKeyNumber(n), looked(table, t));
     }
     t
+}
+
+fn rounds_before_two(
+    table: &[u32; 256],
+    words: &[u32; 60],
+    rounds: usize,
+    a: Columns,
+    b: Columns,
+) -> TwoStates
+    requires { ⌜ (0 < rounds) × (rounds < 15) ⌝ }
+    ensures { λ r. ⌜ r ≡ bothStates (λ s. tableRounds (entry (now (table .entry))) (now (words .entry)) (rounds - 1) (keyed (now (words .entry)) 0 s)) a b ⌝ }
+{
+    let mut s = add_round_key(words, RoundKeyNumber(0), a);
+    let mut t = add_round_key(words, RoundKeyNumber(0), b);
+    for k in 1..rounds {
+        s = add_round_key(words, RoundKeyNumber(k), looked(table, s));
+        t = add_round_key(words, RoundKeyNumber(k), looked(table, t));
+    }
+    TwoStates {
+        first: s,
+        second: t,
+    }
+}
+
+// The last round of the way back, from the state after the others.
+fn inv_last(table: &[u32; 256], words: &[u32; 60], rounds: usize, s: Columns) -> Columns
+    requires { ⌜ rounds < 15 ⌝ }
+    ensures { λ r. ⌜ r ≡ spec.mirrored (keyed (now (words .entry)) rounds (mixedEach (spec.looked (entry (now (table .entry))) s))) ⌝ }
+{
+    let u = mix_columns(looked(table, s));
+    mirrored(add_round_key(words, RoundKeyNumber(rounds), u))
 }
 
 fn add_round_key(words: &[u32; 60], n: RoundKeyNumber, s: Columns) -> Columns

@@ -4,3 +4,4 @@ pub mod Agree
 pub mod Answers
 pub mod Calls
 pub mod Equations
+pub mod Twos

@@ -1,7 +1,7 @@
 -- A run through pieces, one piece more and by its pieces; for every machine. Assumes nothing.
 use mathlib.Core.Path.{_≡_, refl, sym, ap, ap₂, _∙_}
 use mathlib.Core.List.{List, _++_, append-assoc, append-nil}
-use Prim.Native.Nat.{ℕ, zero, suc, _+_, _*_, _≤_}
+use Prim.Native.Nat.{ℕ, zero, suc, _+_, _-_, _*_, _/_, _%_, _≤_, _<_}
 use native.Mathlib.Nat.{zero-mul, suc-mul, add-comm}
 use native.Mathlib.Numerals.{add-one}
 use native.Mathlib.Omega.{arith}
@@ -105,3 +105,54 @@ module _ (m : Machine) (st s out : List ℕ) (i : ℕ) where
 
   pub more-after : after 16 m st (i + 1) s ≡ m .next (after 16 m st i s) (piece 16 s i)
   more-after = rw (add-one i) (after-more 16 m i st s)
+
+-- ---- the same, two pieces at a time
+
+module _ (m : Machine) (st s out : List ℕ) (i : ℕ) (a b : List ℕ)
+    (ea : a ≡ m .out (after 16 m st (i * 2) s) (piece 16 s (i * 2)))
+    (eb : b ≡ m .out (m .next (after 16 m st (i * 2) s) (piece 16 s (i * 2))) (piece 16 s (i * 2 + 1)))
+    (la : length a ≡ 16) (lb : length b ≡ 16) (h : length (made 16 m st (i * 2) s) ≡ i * 2 * 16) where
+  pair-on : (i + 1) * 2 ≡ i * 2 + 1 + 1
+  pair-on = omega arith
+
+  second-is : b ≡ m .out (after 16 m st (i * 2 + 1) s) (piece 16 s (i * 2 + 1))
+  second-is = eb ∙ ap (λ (x : List ℕ). m .out x (piece 16 s (i * 2 + 1))) (sym (more-after m st s out (i * 2)))
+
+  first-length : length (made 16 m st (i * 2 + 1) s) ≡ (i * 2 + 1) * 16
+  first-length = more-length m st s out (i * 2) h (ap length (sym ea) ∙ la)
+
+  pub two-length : length (made 16 m st ((i + 1) * 2) s) ≡ (i + 1) * 2 * 16
+  two-length = rw pair-on (more-length m st s out (i * 2 + 1) first-length (ap length (sym second-is) ∙ lb))
+
+  pub two-after : after 16 m st ((i + 1) * 2) s ≡ m .next (m .next (after 16 m st (i * 2) s) (piece 16 s (i * 2))) (piece 16 s (i * 2 + 1))
+  two-after = rw pair-on (more-after m st s out (i * 2 + 1) ∙ ap (λ (x : List ℕ). m .next x (piece 16 s (i * 2 + 1))) (more-after m st s out (i * 2)))
+
+  pub write-two : (x : List ℕ) → i * 32 + 32 ≤ length out → x ≡ made 16 m st (i * 2) s ++ drop (i * 2 * 16) out
+      → paste (paste x (i * 32) a 16) (i * 32 + 16) b 16 ≡ made 16 m st ((i + 1) * 2) s ++ drop ((i + 1) * 2 * 16) out
+  write-two x k q =
+      let e : i * 32 ≡ i * 2 * 16 = omega arith in
+      let f : i * 32 + 16 ≡ (i * 2 + 1) * 16 = omega arith in
+      let y = paste x (i * 32) a 16 in
+      let g : y ≡ made 16 m st (i * 2 + 1) s ++ drop ((i * 2 + 1) * 16) out =
+      rw (e, ea) (write-more m st s out (i * 2) x h (ap length (sym ea) ∙ la) (omega arith) q) in
+      ap (λ (k : ℕ). paste y k b 16) f
+      ∙ rw (pair-on, second-is)
+      (write-more m st s out (i * 2 + 1) y first-length (ap length (sym second-is) ∙ lb) (omega arith) g)
+
+-- n pieces, once all their pairs are done: with none left, and with one
+module _ (m : Machine) (st s out : List ℕ) (n : ℕ) (x : List ℕ) (q : x ≡ made 16 m st (n / 2 * 2) s ++ drop (n / 2 * 2 * 16) out) where
+  pub pairs-all : n % 2 < 1 → x ≡ made 16 m st n s ++ drop (n * 16) out
+  pairs-all h = let e : n / 2 * 2 ≡ n = omega arith in q ∙ ap (λ (k : ℕ). made 16 m st k s ++ drop (k * 16) out) e
+
+  pub pairs-last : (ch y : List ℕ) → n % 2 ≡ 1 → n * 16 ≤ length out → ch ≡ after 16 m st (n / 2 * 2) s
+      → length (made 16 m st (n / 2 * 2) s) ≡ n / 2 * 2 * 16 → length (m .out ch (piece 16 s (n - 1))) ≡ 16
+      → y ≡ paste x ((n - 1) * 16) (m .out ch (piece 16 s (n - 1))) 16 → y ≡ made 16 m st n s ++ drop (n * 16) out
+  pairs-last ch y h k c l o w =
+      let e : n / 2 * 2 ≡ n - 1 = omega arith in
+      let f : n - 1 + 1 ≡ n = omega arith in
+      let d : ch ≡ after 16 m st (n - 1) s = c ∙ ap (λ (k : ℕ). after 16 m st k s) e in
+      w ∙ ap (λ (c : List ℕ). paste x ((n - 1) * 16) (m .out c (piece 16 s (n - 1))) 16) d
+      ∙ write-more m st s out (n - 1) x (ap (λ (k : ℕ). length (made 16 m st k s)) (sym e) ∙ l ∙ ap (_* 16) e)
+      (ap (λ (c : List ℕ). length (m .out c (piece 16 s (n - 1)))) (sym d) ∙ o) (omega arith)
+      (q ∙ ap (λ (k : ℕ). made 16 m st k s ++ drop (k * 16) out) e)
+      ∙ ap (λ (k : ℕ). made 16 m st k s ++ drop (k * 16) out) f

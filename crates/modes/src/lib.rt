@@ -1,6 +1,8 @@
 // The modes of SP 800-38A on whole pieces of 16 bytes: ECB, CBC, CFB with 16-byte segments, and OFB, each way.
+mod pairs;
 mod steps;
 
+use crate::pairs::step_two;
 use crate::steps::step;
 use blocks::load;
 use blocks::store;
@@ -13,7 +15,12 @@ ghost use mathlib.Core.Path.{_≡_};
 ghost use Rattle.schedule.specs.Schedule.{keyNumber};
 ghost use Rattle.cipher.specs.Tables.{tableCipher, oneTable, inverseWords};
 ghost use Rattle.tables.specs.Tables.{forwardTable, inverseTable};
-ghost use Rattle.modes.specs.Modes.{ivLength, ruled, modeAnswer, modeOutput, common, through};
+ghost use mathlib.Core.List.{_++_};
+ghost use Prim.Native.Nat.{_+_, _*_, _≤_};
+ghost use lib.ListN.{length, drop};
+ghost use lib.Seq.{paste};
+ghost use Rattle.modes.specs.Pieces.{made, after, piece};
+ghost use Rattle.modes.specs.Modes.{machine, ivLength, ruled, modeAnswer, modeOutput, common, through};
 ghost use Rattle.modes.specs.Modes as spec;
 
 pub enum Mode {
@@ -106,15 +113,64 @@ pub fn run(
     ensures { λ _. ⌜ now (output .exit) ≡ through (oneTable (now (table .entry)) (now (words .entry)) rounds) mode way iv (now (input .entry)) (now (output .entry)) ⌝ }
 {
     let n = in_common(input.len(), output.len());
+    let chain = in_pairs(table, words, rounds, mode, way, iv, n / 2, input, output);
+    if n % 2 == 1 {
+        one_piece(table, words, rounds, mode, way, chain, n - 1, input, output);
+    }
+}
+
+// The first n pairs of pieces; the answer is what the next piece is chained to.
+fn in_pairs(
+    table: &[u32; 256],
+    words: &[u32; 60],
+    rounds: usize,
+    mode: Mode,
+    way: Way,
+    iv: [u8; 16],
+    n: usize,
+    input: &[u8],
+    output: &mut [u8],
+) -> [u8; 16]
+    requires { ⌜ (n * 32 ≤ length (now input)) × (n * 32 ≤ length (now output)) ⌝ }
+    ensures handed { λ r. ⌜ r ≡ after 16 (machine (oneTable (now (table .entry)) (now (words .entry)) rounds) mode way) iv (n * 2) (now (input .entry)) ⌝ }
+    ensures size { λ r. ⌜ length (made 16 (machine (oneTable (now (table .entry)) (now (words .entry)) rounds) mode way) iv (n * 2) (now (input .entry))) ≡ n * 2 * 16 ⌝ }
+    ensures written { λ r. ⌜ now (output .exit) ≡ made 16 (machine (oneTable (now (table .entry)) (now (words .entry)) rounds) mode way) iv (n * 2) (now (input .entry)) ++ drop (n * 2 * 16) (now (output .entry)) ⌝ }
+{
     let mut chain = iv;
     for i in 0..n {
-        let piece = load(input, i * 16);
-        let s = step(table, words, rounds, mode, way, chain, piece);
-        let out = s.out;
+        let p = load(input, i * 32);
+        let q = load(input, i * 32 + 16);
+        let s = step_two(table, words, rounds, mode, way, chain, p, q);
+        let first = s.first;
+        let second = s.second;
         let next = s.next;
-        store(output, i * 16, out);
+        store(output, i * 32, first);
+        store(output, i * 32 + 16, second);
         chain = next;
     }
+    chain
+}
+
+// Piece i, chained to what came before it.
+fn one_piece(
+    table: &[u32; 256],
+    words: &[u32; 60],
+    rounds: usize,
+    mode: Mode,
+    way: Way,
+    chain: [u8; 16],
+    i: usize,
+    input: &[u8],
+    output: &mut [u8],
+)
+    requires { ⌜ (i * 16 + 16 ≤ length (now input)) × (i * 16 + 16 ≤ length (now output)) ⌝ }
+    ensures size { λ _. ⌜ length (machine (oneTable (now (table .entry)) (now (words .entry)) rounds) mode way .out chain (piece 16 (now (input .entry)) i)) ≡ 16 ⌝ }
+    ensures written { λ _. ⌜ now (output .exit) ≡ paste (now (output .entry)) (i * 16) (machine (oneTable (now (table .entry)) (now (words .entry)) rounds) mode way .out chain (piece 16 (now (input .entry)) i)) 16 ⌝ }
+{
+    let block = load(input, i * 16);
+    let s = step(table, words, rounds, mode, way, chain, block);
+    let out = s.out;
+    store(output, i * 16, out);
 }
 
 // Whether a mode uses the inverse cipher: decryption in CFB and OFB does not.
