@@ -44,15 +44,19 @@ static int fill_is_zero(const uint8_t *plain, size_t from)
     return any == 0;
 }
 
+// A full block has no fill to test, so it is decrypted straight into the output, as ours is.
 static int read_block(const peer *p, image_place place, const uint8_t *block, uint8_t *out)
 {
     uint8_t made[16], iv[16], plain[480];
+    size_t length = get32(block + 12) >> 16;
     p->check(block, 496, made);
     if (memcmp(made, block + 496, 16) != 0 || !head_fits(place, block))
         return 0;
     p->lone(block, iv);
-    p->run(CBC, DECRYPT, iv, block + 16, plain, 480);
-    if (!fill_is_zero(plain, get32(block + 12) >> 16))
+    p->run(CBC, DECRYPT, iv, block + 16, length == 480 ? out : plain, 480);
+    if (length == 480)
+        return 1;
+    if (!fill_is_zero(plain, length))
         return 0;
     memcpy(out, plain, 480);
     return 1;
