@@ -93,12 +93,6 @@ pub sub-block : (sub : ℕ → ℕ) → ((k : ℕ) → k < 256 → sub k < 256) 
 unfolding subBytes
 sub-block sub lt {n} {s} b = record { size = length-map s sub ∙ b .size; bytes = map-bytes sub lt s (b .bytes) }
 
--- two substitutions that agree on bytes
-pub sub-same : (f g : ℕ → ℕ) → ((k : ℕ) → k < 256 → f k ≡ g k) → (s : List ℕ) → Bytes s → subBytes f s ≡ subBytes g s
-unfolding subBytes
-sub-same f g same [] b = refl
-sub-same f g same (x ∷ s) b = rw (same x (b 0), sub-same f g same s (λ k. b (suc k)))
-
 -- one that undoes another
 pub sub-undone : (f g : ℕ → ℕ) → ((k : ℕ) → k < 256 → g (f k) ≡ k) → (s : List ℕ) → Bytes s → subBytes g (subBytes f s) ≡ s
 unfolding subBytes

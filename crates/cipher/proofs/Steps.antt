@@ -11,19 +11,9 @@ use lib.Dec.{eqb}
 use Rattle.cipher.specs.State.{Shape}
 use Rattle.cipher.specs.declared.rounds.Columns.{Columns}
 use Rattle.cipher.specs.Tables.{keyed, looked, tableRounds}
-use Rattle.cipher.specs.Cipher.{oneRound, rounds, invRound, invRounds, roundCount}
+use Rattle.cipher.specs.Cipher.{rounds, invRound, invRounds, roundCount}
 
 module _ (z : Shape) (sub : ℕ → ℕ) (w s : List ℕ) where
-  pub rounds-none : rounds z sub w 0 s ≡ s
-  unfolding rounds
-  rounds-none = refl
-
-  -- where n counts from 1: the round n that is to be made
-  pub rounds-next : (n : ℕ) → 0 < n → rounds z sub w n s ≡ oneRound z sub w n (rounds z sub w (n - 1) s)
-  unfolding rounds
-  rounds-next zero h = absurd (not-suc-le-zero h)
-  rounds-next (suc n) h = rw (sub-one (suc n))
-
   pub inv-rounds-none : invRounds z sub w 0 s ≡ s
   unfolding invRounds
   inv-rounds-none = refl

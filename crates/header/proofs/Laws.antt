@@ -6,10 +6,10 @@ use native.Mathlib.Omega.{arith}
 use lib.ListN.{length, getD, take, drop}
 use lib.Seq.{drop-cons, getD-take}
 use Rattle.octets.specs.Octets.{Bytes, Octets}
-use Rattle.octets.specs.Words.{word, bytesOf}
+use Rattle.octets.specs.Words.{word, wordAt, bytesOf}
 use Rattle.octets.proofs.Words.{byte-lt, byte0-word, byte1-word, byte2-word, byte3-word, word-bytes}
 use Rattle.octets.proofs.Blocks.{append-bytes}
-use Rattle.header.specs.Layout.{wordAt, halfAt, halfBytes, headOf, headBytes}
+use Rattle.header.specs.Layout.{halfAt, halfBytes, headOf, headBytes}
 use Rattle.header.specs.declared.Head.{Head}
 
 -- a header by its fields

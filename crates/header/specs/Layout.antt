@@ -2,7 +2,7 @@
 use Prim.Native.Nat.{ℕ, _+_, _*_, _/_, _%_}
 use mathlib.Core.List.{List, [], _∷_, _++_}
 use lib.ListN.{getD}
-use Rattle.octets.specs.Words.{word, bytesOf}
+use Rattle.octets.specs.Words.{wordAt, bytesOf}
 use Rattle.header.specs.declared.Head.{Head}
 
 -- ---- the parts of a block, in bytes
@@ -21,9 +21,6 @@ abbrev pub blockSize : ℕ
 blockSize = 512
 
 -- ---- the header: numbers of four bytes and of two, the highest byte first
-
-abbrev pub wordAt : List ℕ → ℕ → ℕ
-wordAt b at = word (getD b at 0) (getD b (at + 1) 0) (getD b (at + 2) 0) (getD b (at + 3) 0)
 
 abbrev pub halfAt : List ℕ → ℕ → ℕ
 halfAt b at = getD b at 0 * 256 + getD b (at + 1) 0

@@ -1,6 +1,7 @@
 -- Words of four bytes: numbers below 2^32 whose first byte is the highest (FIPS 197, 3.5). Assumes nothing: these are definitions.
 use Prim.Native.Nat.{ℕ, zero, suc, _+_, _*_, _/_, _%_}
 use mathlib.Core.List.{List, [], _∷_}
+use lib.ListN.{getD}
 
 -- the word with the bytes a, b, c, d
 unfoldable pub word : ℕ → ℕ → ℕ → ℕ → ℕ
@@ -12,6 +13,10 @@ byte zero x = x / 16777216 % 256
 byte (suc zero) x = x / 65536 % 256
 byte (suc (suc zero)) x = x / 256 % 256
 byte (suc (suc (suc r))) x = x % 256
+
+-- the word of the four bytes of a list from a place on
+abbrev pub wordAt : List ℕ → ℕ → ℕ
+wordAt b at = word (getD b at 0) (getD b (at + 1) 0) (getD b (at + 2) 0) (getD b (at + 3) 0)
 
 -- the bytes of a list of words
 unfoldable pub bytesOf : List ℕ → List ℕ

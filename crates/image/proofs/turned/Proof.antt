@@ -4,11 +4,6 @@ use native.Mathlib.Omega.{arith}
 use borrow.Author.Needs.{needs}
 use Rattle.image.proofs.turned.Statement.{statement}
 use Rattle.image.proofs.turned.Tie as tie
-use Rattle.image.proofs.turned.Reads as reads
-use Rattle.image.proofs.turned.Lts as lts
-use Rattle.image.proofs.turns.run.Reads as run-reads
-use Rattle.tables.proofs.forward_table.Reads as forward-table-reads
-use Rattle.tables.proofs.inverse_table.Reads as inverse-table-reads
 
 words-back-requires : tie.Need-words-back-requires
 words-back-requires c κs = search needs
