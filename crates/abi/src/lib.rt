@@ -20,7 +20,7 @@ ghost use mathlib.Core.Path.{_≡_};
 ghost use Rattle.field.specs.Field.{_•_};
 ghost use Rattle.sbox.specs.Sbox.{sBox};
 ghost use Rattle.schedule.specs.Schedule.{scheduleOf};
-ghost use Rattle.cipher.specs.Cipher.{encryptUnder, decryptUnder};
+ghost use Rattle.cipher.specs.Calls.{encryptUnder, decryptUnder};
 ghost use Rattle.modes.specs.declared.Mode.the-variants.{Ecb, Cbc, Cfb, Ofb};
 ghost use Rattle.modes.specs.declared.Way.the-variants.{Encrypt, Decrypt};
 ghost use Rattle.modes.specs.Modes.{modeNumber, modeAnswer};

@@ -1,14 +1,9 @@
 // AES, FIPS 197: one block encrypted or decrypted under a key of 16, 24 or 32 bytes.
-mod rounds;
-
-use crate::rounds::cipher;
-use crate::rounds::cipher_two;
-use crate::rounds::inv_cipher;
-use crate::rounds::inv_cipher_two;
-use crate::rounds::load;
-use crate::rounds::store;
+use rounds::decrypt_block;
+use rounds::encrypt_block;
 use schedule::KeyAnswer;
 use schedule::KeySchedule;
+use schedule::is_round_count;
 use tables::forward_table;
 use tables::inverse_table;
 use words::inv_mix_column;
@@ -16,20 +11,13 @@ ghost use mathlib.Core.Path.{_≡_};
 ghost use Prim.Native.Nat.{_<_};
 ghost use Rattle.octets.specs.Octets.{tabulate};
 ghost use Rattle.sbox.specs.Sbox.{entry};
-ghost use Rattle.cipher.specs.Cipher.{roundCount, encryptUnder, decryptUnder};
-ghost use Rattle.cipher.specs.Tables.{tableEncrypt, tableDecrypt, inverseWord, inverseWords};
-ghost use Rattle.cipher.specs.Pairs.{both};
+ghost use Rattle.cipher.specs.Calls.{encryptUnder, decryptUnder};
+ghost use Rattle.lookups.specs.Tables.{inverseWord, inverseWords};
 
 // The answer for the key, and the block: zeros where the key was refused.
 pub struct Ciphered {
     pub answer: KeyAnswer,
     pub block: [u8; 16],
-}
-
-// Two blocks ciphered side by side, each on its own.
-pub struct Two {
-    pub first: [u8; 16],
-    pub second: [u8; 16],
 }
 
 pub fn encrypt(key: &[u8], block: [u8; 16]) -> Ciphered
@@ -60,85 +48,6 @@ pub fn decrypt(key: &[u8], block: [u8; 16]) -> Ciphered
     Ciphered {
         answer,
         block: plaintext,
-    }
-}
-
-// The block under a schedule, with the forward table lent, for callers that encrypt many.
-pub fn encrypt_block(
-    table: &[u32; 256],
-    words: &[u32; 60],
-    rounds: usize,
-    block: [u8; 16],
-) -> [u8; 16]
-    ensures { λ r. ⌜ r ≡ tableEncrypt (entry (now (table .entry))) (now (words .entry)) rounds block ⌝ }
-{
-    if is_round_count(rounds) {
-        return store(cipher(table, words, rounds, load(block)));
-    }
-    [0u8; 16]
-}
-
-// The block under the schedule for the way back, with the inverse table lent.
-pub fn decrypt_block(
-    table: &[u32; 256],
-    words: &[u32; 60],
-    rounds: usize,
-    block: [u8; 16],
-) -> [u8; 16]
-    ensures { λ r. ⌜ r ≡ tableDecrypt (entry (now (table .entry))) (now (words .entry)) rounds block ⌝ }
-{
-    if is_round_count(rounds) {
-        return store(inv_cipher(table, words, rounds, load(block)));
-    }
-    [0u8; 16]
-}
-
-// The two blocks at once, which is faster than one after the other: while a lookup for one is under way, another is made for the other.
-pub fn encrypt_two(
-    table: &[u32; 256],
-    words: &[u32; 60],
-    rounds: usize,
-    first: [u8; 16],
-    second: [u8; 16],
-) -> Two
-    ensures { λ r. ⌜ r ≡ both (tableEncrypt (entry (now (table .entry))) (now (words .entry)) rounds) first second ⌝ }
-{
-    if is_round_count(rounds) {
-        let t = cipher_two(table, words, rounds, load(first), load(second));
-        let a = t.first;
-        let b = t.second;
-        return Two {
-            first: store(a),
-            second: store(b),
-        };
-    }
-    Two {
-        first: [0u8; 16],
-        second: [0u8; 16],
-    }
-}
-
-pub fn decrypt_two(
-    table: &[u32; 256],
-    words: &[u32; 60],
-    rounds: usize,
-    first: [u8; 16],
-    second: [u8; 16],
-) -> Two
-    ensures { λ r. ⌜ r ≡ both (tableDecrypt (entry (now (table .entry))) (now (words .entry)) rounds) first second ⌝ }
-{
-    if is_round_count(rounds) {
-        let t = inv_cipher_two(table, words, rounds, load(first), load(second));
-        let a = t.first;
-        let b = t.second;
-        return Two {
-            first: store(a),
-            second: store(b),
-        };
-    }
-    Two {
-        first: [0u8; 16],
-        second: [0u8; 16],
     }
 }
 
@@ -179,16 +88,4 @@ fn inverse_word(words: &[u32; 60], rounds: usize, i: usize) -> u32
         return word;
     }
     inv_mix_column(word)
-}
-
-fn is_round_count(n: usize) -> bool
-    ensures { λ r. ⌜ r ≡ roundCount n ⌝ }
-{
-    if n == 10 {
-        return true;
-    }
-    if n == 12 {
-        return true;
-    }
-    n == 14
 }

@@ -6,8 +6,9 @@ use Prim.Native.Nat.{ℕ}
 use lib.ListN.{replicate}
 use Rattle.sbox.specs.Sbox.{sBox}
 use Rattle.schedule.specs.Schedule.{scheduleOf}
-use Rattle.cipher.specs.Cipher.{roundCount, encryptBlock}
-use Rattle.cipher.specs.Tables.{tableEncrypt}
+use Rattle.schedule.specs.Schedule.{roundCount}
+use Rattle.fips197.specs.Cipher.{encryptBlock}
+use Rattle.lookups.specs.Tables.{tableEncrypt}
 use Rattle.cmac.specs.Cmac.{ended, cmac}
 use Rattle.cmac.specs.Running.{takenIn, closed, lent, standard, checkOf, recordOf, startOf, fedWith, closeOf, fedParts, joined}
 use Rattle.cmac.specs.declared.Run.{Run}

@@ -12,11 +12,12 @@ use Rattle.sbox.specs.Sbox.{sBox}
 use Rattle.sbox.proofs.Laws.{sBox-lt}
 use Rattle.schedule.specs.Schedule.{scheduleOf}
 use Rattle.schedule.specs.declared.Expanded.{Expanded}
-use Rattle.cipher.specs.State.{aes}
-use Rattle.cipher.specs.Cipher.{roundCount, cipher, encryptBlock}
+use Rattle.fips197.specs.State.{aes}
+use Rattle.schedule.specs.Schedule.{roundCount}
+use Rattle.fips197.specs.Cipher.{cipher, encryptBlock}
 use Rattle.tables.specs.Tables.{forwardTable}
-use Rattle.cipher.proofs.Undo.{cipher-block}
-use Rattle.cipher.proofs.Lawful.{lent-agrees}
+use Rattle.fips197.proofs.Undo.{cipher-block}
+use Rattle.lookups.proofs.Lawful.{lent-agrees}
 use Rattle.cmac.specs.Cmac.{doubled, key1, key2, last, earlier, chained, ended, cmac}
 use Rattle.cmac.specs.Running.{heldBytes, holding, takenIn, fed, closed, lent, standard, checkOf, runOf, recordOf, fedWith, closeOf}
 use Rattle.cmac.specs.declared.Run.{Run}

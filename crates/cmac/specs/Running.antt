@@ -8,8 +8,8 @@ use Rattle.octets.specs.Blocks.{BlockCipher}
 use Rattle.sbox.specs.Sbox.{sBox, invSBox}
 use Rattle.schedule.specs.Schedule.{scheduleOf}
 use Rattle.schedule.specs.declared.Expanded.{Expanded}
-use Rattle.cipher.specs.Cipher.{blockCipher}
-use Rattle.cipher.specs.Tables.{oneTable}
+use Rattle.fips197.specs.Cipher.{blockCipher}
+use Rattle.lookups.specs.Tables.{oneTable}
 use Rattle.cmac.specs.Cmac.{earlier, chained, ended, cmac}
 use Rattle.cmac.specs.declared.Run.{Run}
 use Rattle.cmac.specs.declared.Record.{Record}

@@ -7,7 +7,7 @@ use crate::pieces::earlier;
 use crate::pieces::filled;
 use crate::subkeys::last;
 use blocks::xor;
-use cipher::encrypt_block;
+use rounds::encrypt_block;
 use schedule::KeyAnswer;
 use schedule::KeySchedule;
 use tables::forward_table;

@@ -1,7 +1,7 @@
 // The pieces of a message, as they come and as they go into the chain.
 use blocks::load;
 use blocks::xor;
-use cipher::encrypt_block;
+use rounds::encrypt_block;
 ghost use mathlib.Core.Path.{_≡_};
 ghost use mathlib.Core.List.{_++_};
 ghost use Prim.Native.Nat.{_-_, _*_, _/_, _≤_};

@@ -1,7 +1,7 @@
 // The subkeys, and the last block that they make.
 use crate::pieces::filled;
 use blocks::xor;
-use cipher::encrypt_block;
+use rounds::encrypt_block;
 ghost use mathlib.Core.Path.{_≡_};
 ghost use Prim.Native.Nat.{_+_, _*_, _/_, _%_};
 ghost use lib.ListN.{take};

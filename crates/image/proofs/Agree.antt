@@ -10,10 +10,11 @@ use Rattle.octets.specs.Octets.{Bytes, Octets, choose, padTo}
 use Rattle.octets.specs.Blocks.{BlockCipher, Lawful}
 use Rattle.octets.proofs.Fill.{length-padTo}
 use Rattle.octets.proofs.Blocks.{take-bytes, drop-bytes, append-bytes, zeros-bytes, take-octets}
-use Rattle.cipher.specs.Cipher.{roundCount}
-use Rattle.cipher.specs.Tables.{inverseWords}
+use Rattle.schedule.specs.Schedule.{roundCount}
+use Rattle.lookups.specs.Tables.{inverseWords}
 use Rattle.tables.specs.Tables.{forwardTable, inverseTable}
-use Rattle.cipher.proofs.Lawful.{Agree, lent-agrees, aes-lawful}
+use Rattle.lookups.proofs.Lawful.{Agree, lent-agrees}
+use Rattle.fips197.proofs.Aes.{aes-lawful}
 use Rattle.blocks.specs.Blocks.{same}
 use Rattle.modes.specs.Modes.{moded}
 use Rattle.modes.specs.declared.Mode.the-variants.{Cbc}

@@ -11,7 +11,7 @@ use Rattle.octets.specs.Blocks.{BlockCipher}
 use Rattle.blocks.specs.Blocks.{blockAt, same}
 use Rattle.blocks.proofs.Laws.{block-at}
 use Rattle.cmac.specs.Cmac.{cmac}
-use Rattle.cipher.specs.Cipher.{roundCount}
+use Rattle.schedule.specs.Schedule.{roundCount}
 use Rattle.header.specs.Layout.{headOf}
 use Rattle.header.specs.declared.Head.{Head}
 use Rattle.header.proofs.Laws.{head-of-first}

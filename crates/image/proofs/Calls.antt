@@ -14,9 +14,9 @@ use Rattle.sbox.specs.Sbox.{sBox}
 use Rattle.schedule.specs.Schedule.{scheduleOf, keyNumber}
 use Rattle.schedule.specs.declared.Expanded.{Expanded}
 use Rattle.schedule.specs.declared.KeyAnswer.the-variants.{Taken, KeyLength}
-use Rattle.cipher.specs.Tables.{inverseWords}
+use Rattle.lookups.specs.Tables.{inverseWords}
 use Rattle.tables.specs.Tables.{forwardTable, inverseTable}
-use Rattle.cipher.proofs.Lawful.{key-lawful}
+use Rattle.fips197.proofs.Aes.{key-lawful}
 use Rattle.modes.specs.Modes.{over}
 use Rattle.cmac.specs.Running.{lent}
 use Rattle.header.specs.Rules.{countFits, lengthFits}

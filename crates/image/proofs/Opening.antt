@@ -15,10 +15,10 @@ use Rattle.octets.specs.Blocks.{_⊕_, BlockCipher}
 use Rattle.octets.proofs.Blocks.{⊕-length}
 use Rattle.blocks.specs.Blocks.{blockAt}
 use Rattle.blocks.proofs.Laws.{block-at}
-use Rattle.cipher.specs.Cipher.{roundCount}
-use Rattle.cipher.specs.Tables.{tableEncrypt, tableDecrypt, tableForth, tableBack}
-use Rattle.cipher.specs.Columns.{blockOf, columnsOf}
-use Rattle.cipher.specs.declared.rounds.Columns.{Columns}
+use Rattle.schedule.specs.Schedule.{roundCount}
+use Rattle.lookups.specs.Tables.{tableEncrypt, tableDecrypt, tableForth, tableBack}
+use Rattle.lookups.specs.Columns.{blockOf, columnsOf}
+use Rattle.lookups.specs.declared.Columns.{Columns}
 use Rattle.modes.specs.Pieces.{made, piece}
 use Rattle.modes.specs.Modes.{machine, moded, through}
 use Rattle.modes.specs.Equations.{previous}

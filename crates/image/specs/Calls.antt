@@ -11,7 +11,8 @@ use Rattle.schedule.specs.declared.Expanded.{Expanded}
 use Rattle.schedule.specs.declared.KeySchedule.{KeySchedule}
 use Rattle.schedule.specs.declared.KeyAnswer.{KeyAnswer}
 use Rattle.schedule.specs.declared.KeyAnswer.the-variants.{Taken, KeyLength}
-use Rattle.cipher.specs.Cipher.{roundCount, aesOf}
+use Rattle.schedule.specs.Schedule.{roundCount}
+use Rattle.fips197.specs.Cipher.{aesOf}
 use Rattle.cmac.specs.Running.{standard}
 use Rattle.modes.specs.Modes.{over}
 use Rattle.header.specs.Layout.{bodySize, blockSize}

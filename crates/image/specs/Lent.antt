@@ -4,8 +4,8 @@ use mathlib.Core.Bool.{Bool, _&&_}
 use mathlib.Core.List.{List}
 use lib.Seq.{paste}
 use Rattle.octets.specs.Blocks.{BlockCipher}
-use Rattle.cipher.specs.Cipher.{roundCount}
-use Rattle.cipher.specs.Tables.{tableCipher}
+use Rattle.schedule.specs.Schedule.{roundCount}
+use Rattle.lookups.specs.Tables.{tableCipher}
 use Rattle.cmac.specs.Running.{lent}
 use Rattle.header.specs.Layout.{bodySize, headOf}
 use Rattle.header.specs.declared.Progress.{Progress}

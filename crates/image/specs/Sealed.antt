@@ -1,5 +1,5 @@
 -- One block, sealed and opened, over any two block ciphers (document 01, 'Image blocks'). Assumes nothing: these are definitions.
-use Prim.Native.Nat.{ℕ, zero}
+use Prim.Native.Nat.{ℕ}
 use mathlib.Core.Bool.{Bool, true, _&&_}
 use mathlib.Core.List.{List, [], _∷_, _++_}
 use lib.Dec.{eqb}

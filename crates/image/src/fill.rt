@@ -1,13 +1,13 @@
 // Whether what follows the payload is zero, found piece by piece: no more than 16 decrypted bytes are held.
 use blocks::load;
 use blocks::xor;
-use cipher::decrypt_block;
-use cipher::encrypt_block;
+use rounds::decrypt_block;
+use rounds::encrypt_block;
 ghost use mathlib.Core.Path.{_≡_};
 ghost use Prim.Native.Nat.{_<_};
 ghost use lib.ListN.{length, take, drop};
 ghost use Rattle.sbox.specs.Sbox.{entry};
-ghost use Rattle.cipher.specs.Tables.{tableEncrypt};
+ghost use Rattle.lookups.specs.Tables.{tableEncrypt};
 ghost use Rattle.modes.specs.Pieces.{piece};
 ghost use Rattle.modes.specs.Equations.{previous};
 ghost use Rattle.image.specs.Sealed as spec;

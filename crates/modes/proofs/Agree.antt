@@ -14,8 +14,8 @@ use Rattle.octets.proofs.Xor.{lt-or-le}
 use Rattle.octets.proofs.Blocks.{⊕-octets}
 use Rattle.blocks.specs.Blocks.{blockAt}
 use Rattle.blocks.proofs.Laws.{block-at, block-octets}
-use Rattle.cipher.specs.Tables.{tableCipher, oneTable}
-use Rattle.cipher.proofs.Lawful.{Agree}
+use Rattle.lookups.specs.Tables.{tableCipher, oneTable}
+use Rattle.lookups.proofs.Lawful.{Agree}
 use Rattle.modes.specs.Pieces.{made}
 use Rattle.modes.specs.Modes.{machine, inverts, moded, ivLength, over, common, through}
 use Rattle.modes.specs.declared.Mode.{Mode}

@@ -10,10 +10,11 @@ use Rattle.sbox.specs.Sbox.{sBox}
 use Rattle.schedule.specs.Schedule.{scheduleOf, keyNumber}
 use Rattle.schedule.specs.declared.Expanded.{Expanded}
 use Rattle.blocks.specs.Blocks.{blockAt}
-use Rattle.cipher.specs.Cipher.{aesOf}
-use Rattle.cipher.specs.Tables.{tableCipher, inverseWords}
+use Rattle.fips197.specs.Cipher.{aesOf}
+use Rattle.lookups.specs.Tables.{tableCipher, inverseWords}
 use Rattle.tables.specs.Tables.{forwardTable, inverseTable}
-use Rattle.cipher.proofs.Lawful.{lent-agrees, key-lawful}
+use Rattle.lookups.proofs.Lawful.{lent-agrees}
+use Rattle.fips197.proofs.Aes.{key-lawful}
 use Rattle.modes.specs.Modes.{ivLength, ruled, modeAnswer, modeOutput, through}
 use Rattle.modes.specs.declared.Mode.{Mode}
 use Rattle.modes.specs.declared.Way.{Way}

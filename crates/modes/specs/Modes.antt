@@ -8,7 +8,7 @@ use Rattle.octets.specs.Octets.{choose}
 use Rattle.octets.specs.Blocks.{_⊕_, BlockCipher}
 use Rattle.sbox.specs.Sbox.{sBox}
 use Rattle.schedule.specs.Schedule.{scheduleOf, keyNumber}
-use Rattle.cipher.specs.Cipher.{aesOf}
+use Rattle.fips197.specs.Cipher.{aesOf}
 use Rattle.modes.specs.Pieces.{Machine, made}
 use Rattle.modes.specs.declared.Mode.{Mode}
 use Rattle.modes.specs.declared.Mode.the-variants.{Ecb, Cbc, Cfb, Ofb}

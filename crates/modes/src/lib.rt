@@ -13,7 +13,7 @@ use tables::forward_table;
 use tables::inverse_table;
 ghost use mathlib.Core.Path.{_≡_};
 ghost use Rattle.schedule.specs.Schedule.{keyNumber};
-ghost use Rattle.cipher.specs.Tables.{tableCipher, oneTable, inverseWords};
+ghost use Rattle.lookups.specs.Tables.{tableCipher, oneTable, inverseWords};
 ghost use Rattle.tables.specs.Tables.{forwardTable, inverseTable};
 ghost use mathlib.Core.List.{_++_};
 ghost use Prim.Native.Nat.{_+_, _*_, _≤_};

@@ -3,11 +3,11 @@
 use crate::Mode;
 use crate::Way;
 use blocks::xor;
-use cipher::decrypt_two;
-use cipher::encrypt_block;
-use cipher::encrypt_two;
+use rounds::decrypt_two;
+use rounds::encrypt_block;
+use rounds::encrypt_two;
 ghost use mathlib.Core.Path.{_≡_};
-ghost use Rattle.cipher.specs.Tables.{oneTable};
+ghost use Rattle.lookups.specs.Tables.{oneTable};
 ghost use Rattle.modes.specs.declared.Mode.the-variants.{Ecb, Cbc, Cfb, Ofb};
 ghost use Rattle.modes.specs.Modes.{machine};
 ghost use Rattle.modes.specs.Steps.{stepsOf};

@@ -3,10 +3,10 @@
 use crate::Mode;
 use crate::Way;
 use blocks::xor;
-use cipher::decrypt_block;
-use cipher::encrypt_block;
+use rounds::decrypt_block;
+use rounds::encrypt_block;
 ghost use mathlib.Core.Path.{_≡_};
-ghost use Rattle.cipher.specs.Tables.{oneTable};
+ghost use Rattle.lookups.specs.Tables.{oneTable};
 ghost use Rattle.modes.specs.declared.Mode.the-variants.{Ecb, Cbc, Cfb, Ofb};
 ghost use Rattle.modes.specs.Modes.{machine};
 ghost use Rattle.modes.specs.Steps.{stepOf};

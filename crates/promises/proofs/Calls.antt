@@ -21,14 +21,21 @@ use Rattle.words.proofs.spun.Reads as spun
 use Rattle.words.proofs.middles.Reads as middles
 use Rattle.schedule.proofs.KeySchedule.new.Reads as new
 use Rattle.schedule.proofs.KeySchedule.with.Reads as with
+use Rattle.schedule.proofs.is_round_count.Reads as is-round-count
 use Rattle.tables.proofs.forward_table.Reads as forward-table
 use Rattle.tables.proofs.inverse_table.Reads as inverse-table
+use Rattle.states.proofs.load.Reads as load-state
+use Rattle.states.proofs.store.Reads as store-state
+use Rattle.states.proofs.looked.Reads as looked
+use Rattle.states.proofs.looked_last.Reads as looked-last
+use Rattle.states.proofs.mirrored.Reads as mirrored
+use Rattle.states.proofs.mix_columns.Reads as mix-columns
 use Rattle.cipher.proofs.encrypt.Reads as encrypt
 use Rattle.cipher.proofs.decrypt.Reads as decrypt
-use Rattle.cipher.proofs.encrypt_block.Reads as encrypt-block
-use Rattle.cipher.proofs.decrypt_block.Reads as decrypt-block
-use Rattle.cipher.proofs.encrypt_two.Reads as encrypt-two
-use Rattle.cipher.proofs.decrypt_two.Reads as decrypt-two
+use Rattle.rounds.proofs.encrypt_block.Reads as encrypt-block
+use Rattle.rounds.proofs.decrypt_block.Reads as decrypt-block
+use Rattle.rounds.proofs.encrypt_two.Reads as encrypt-two
+use Rattle.rounds.proofs.decrypt_two.Reads as decrypt-two
 use Rattle.cipher.proofs.inverse_words.Reads as inverse-words
 
 pub double-asks-nothing : (κs : _) (a : _) → double.Asked κs a
@@ -120,6 +127,48 @@ inverse-table-asks-nothing κs a = tt
 
 pub inverse-table-determined : (κs : _) (a : _) (r r′ : _) (s s′ : _) → inverse-table.Post κs a r s → inverse-table.Post κs a r′ s′ → r ≡ r′
 inverse-table-determined κs a r r′ s s′ p q = p ∙ sym q
+
+pub is-round-count-asks-nothing : (κs : _) (a : _) → is-round-count.Asked κs a
+is-round-count-asks-nothing κs a = tt
+
+pub is-round-count-determined : (κs : _) (a : _) (r r′ : _) (s s′ : _) → is-round-count.Post κs a r s → is-round-count.Post κs a r′ s′ → r ≡ r′
+is-round-count-determined κs a r r′ s s′ p q = p ∙ sym q
+
+pub load-state-asks-nothing : (κs : _) (a : _) → load-state.Asked κs a
+load-state-asks-nothing κs a = tt
+
+pub load-state-determined : (κs : _) (a : _) (r r′ : _) (s s′ : _) → load-state.Post κs a r s → load-state.Post κs a r′ s′ → r ≡ r′
+load-state-determined κs a r r′ s s′ p q = p ∙ sym q
+
+pub store-state-asks-nothing : (κs : _) (a : _) → store-state.Asked κs a
+store-state-asks-nothing κs a = tt
+
+pub store-state-determined : (κs : _) (a : _) (r r′ : _) (s s′ : _) → store-state.Post κs a r s → store-state.Post κs a r′ s′ → r ≡ r′
+store-state-determined κs a r r′ s s′ p q = p ∙ sym q
+
+pub looked-asks-nothing : (κs : _) (a : _) → looked.Asked κs a
+looked-asks-nothing κs a = tt
+
+pub looked-determined : (κs : _) (a : _) (r r′ : _) (s s′ : _) → looked.Post κs a r s → looked.Post κs a r′ s′ → r ≡ r′
+looked-determined κs a r r′ s s′ p q = p ∙ sym q
+
+pub looked-last-asks-nothing : (κs : _) (a : _) → looked-last.Asked κs a
+looked-last-asks-nothing κs a = tt
+
+pub looked-last-determined : (κs : _) (a : _) (r r′ : _) (s s′ : _) → looked-last.Post κs a r s → looked-last.Post κs a r′ s′ → r ≡ r′
+looked-last-determined κs a r r′ s s′ p q = p ∙ sym q
+
+pub mirrored-asks-nothing : (κs : _) (a : _) → mirrored.Asked κs a
+mirrored-asks-nothing κs a = tt
+
+pub mirrored-determined : (κs : _) (a : _) (r r′ : _) (s s′ : _) → mirrored.Post κs a r s → mirrored.Post κs a r′ s′ → r ≡ r′
+mirrored-determined κs a r r′ s s′ p q = p ∙ sym q
+
+pub mix-columns-asks-nothing : (κs : _) (a : _) → mix-columns.Asked κs a
+mix-columns-asks-nothing κs a = tt
+
+pub mix-columns-determined : (κs : _) (a : _) (r r′ : _) (s s′ : _) → mix-columns.Post κs a r s → mix-columns.Post κs a r′ s′ → r ≡ r′
+mix-columns-determined κs a r r′ s s′ p q = p ∙ sym q
 
 pub encrypt-asks-nothing : (κs : _) (a : _) → encrypt.Asked κs a
 encrypt-asks-nothing κs a = tt

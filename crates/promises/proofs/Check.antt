@@ -11,10 +11,11 @@ use Rattle.sbox.specs.Sbox.{sBox, invSBox}
 use Rattle.schedule.specs.Schedule.{taken, refused, scheduleOf, keyNumber}
 use Rattle.schedule.specs.declared.Expanded.{Expanded}
 use Rattle.tables.specs.Tables.{forwardTable}
-use Rattle.cipher.specs.State.{aes}
-use Rattle.cipher.specs.Cipher.{roundCount, cipher, invCipher, encryptBlock, decryptBlock, aesOf}
-use Rattle.cipher.proofs.Padding.{cipher-padded, inv-cipher-padded}
-use Rattle.cipher.proofs.Lawful.{key-lawful}
+use Rattle.fips197.specs.State.{aes}
+use Rattle.schedule.specs.Schedule.{roundCount}
+use Rattle.fips197.specs.Cipher.{cipher, invCipher, encryptBlock, decryptBlock, aesOf}
+use Rattle.fips197.proofs.Padding.{cipher-padded, inv-cipher-padded}
+use Rattle.fips197.proofs.Aes.{key-lawful}
 use Rattle.cmac.specs.Cmac.{cmac, SameOutside}
 use Rattle.cmac.specs.Running.{lent, standard, begun, checkedBy, checkOf, startedBy, startOf, fedWith, closeOf, fedParts, joined}
 use Rattle.cmac.specs.declared.Record.{Record}

@@ -12,13 +12,15 @@ use Rattle.sbox.specs.Sbox.{sBox, invSBox}
 use Rattle.schedule.specs.Schedule.{keyExpansion, taken, refused, scheduleOf, keyNumber}
 use Rattle.schedule.specs.declared.Expanded.{Expanded}
 use Rattle.schedule.specs.declared.KeyAnswer.the-variants.{Taken, KeyLength}
-use Rattle.cipher.specs.State.{aes}
-use Rattle.cipher.specs.Cipher.{cipher, invCipher, roundCount, encryptBlock, decryptBlock, encryptUnder, decryptUnder}
+use Rattle.fips197.specs.State.{aes}
+use Rattle.fips197.specs.Cipher.{cipher, invCipher, encryptBlock, decryptBlock}
+use Rattle.schedule.specs.Schedule.{roundCount}
+use Rattle.cipher.specs.Calls.{encryptUnder, decryptUnder}
 use Rattle.cipher.specs.declared.Ciphered.{Ciphered}
-use Rattle.cipher.proofs.State.{aes-regular}
-use Rattle.cipher.proofs.Undo.{decipher-cipher, cipher-decipher}
-use Rattle.cipher.proofs.Lawful.{sBox-inverse}
-use Rattle.cipher.proofs.Padding.{cipher-padded, inv-cipher-padded}
+use Rattle.fips197.proofs.State.{aes-regular}
+use Rattle.fips197.proofs.Undo.{decipher-cipher, cipher-decipher}
+use Rattle.fips197.proofs.Aes.{sBox-inverse}
+use Rattle.fips197.proofs.Padding.{cipher-padded, inv-cipher-padded}
 use Rattle.schedule.proofs.KeySchedule.new.Reads as new
 use Rattle.cipher.proofs.encrypt.Reads as encrypt
 use Rattle.cipher.proofs.decrypt.Reads as decrypt

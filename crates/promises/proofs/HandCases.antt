@@ -10,7 +10,7 @@ use Rattle.field.specs.Field.{xTimes, xPower, productWithin, _•_}
 use Rattle.sbox.specs.Sbox.{square, powerWithin, inverse, bit, fromBits, affine, invAffine, sBox, invSBox}
 use Rattle.words.specs.Columns.{rotWord, diagonal, row}
 use Rattle.schedule.specs.Schedule.{rCon, keyWord, temp, nextWord}
-use Rattle.cipher.specs.State.{aes, at, state, shiftRows, mixColumns, invMixColumns}
+use Rattle.fips197.specs.State.{aes, at, state, shiftRows, mixColumns, invMixColumns}
 use Rattle.cmac.specs.Cmac.{shifted, doubled}
 
 -- what a definition gives, and what the document has

@@ -13,8 +13,8 @@ use Rattle.octets.specs.Octets.{choose, Bytes, Octets}
 use Rattle.octets.specs.Blocks.{BlockCipher, Lawful}
 use Rattle.octets.proofs.Blocks.{take-bytes, drop-bytes}
 use Rattle.schedule.specs.Schedule.{keyNumber}
-use Rattle.cipher.specs.Cipher.{aesOf}
-use Rattle.cipher.proofs.Lawful.{key-lawful}
+use Rattle.fips197.specs.Cipher.{aesOf}
+use Rattle.fips197.proofs.Aes.{key-lawful}
 use Rattle.modes.specs.Modes.{over}
 use Rattle.modes.specs.Pieces.{piece}
 use Rattle.cmac.specs.Cmac.{SameOutside}

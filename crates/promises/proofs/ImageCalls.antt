@@ -16,8 +16,9 @@ use Rattle.sbox.specs.Sbox.{sBox}
 use Rattle.schedule.specs.Schedule.{scheduleOf, keyNumber}
 use Rattle.schedule.specs.Schedule as schedule
 use Rattle.schedule.specs.declared.Expanded.{Expanded}
-use Rattle.cipher.specs.Cipher.{roundCount, aesOf}
-use Rattle.cipher.proofs.Lawful.{aes-lawful, key-lawful}
+use Rattle.schedule.specs.Schedule.{roundCount}
+use Rattle.fips197.specs.Cipher.{aesOf}
+use Rattle.fips197.proofs.Aes.{aes-lawful, key-lawful}
 use Rattle.modes.specs.Modes.{over}
 use Rattle.header.specs.Layout.{headOf}
 use Rattle.header.specs.Rules.{countFits, lengthFits}

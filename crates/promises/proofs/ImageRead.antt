@@ -7,8 +7,8 @@ use native.Mathlib.Omega.{arith}
 use lib.ListN.{length, take, drop, length-append}
 use Rattle.octets.specs.Octets.{Bytes, Octets}
 use Rattle.octets.specs.Blocks.{BlockCipher, Lawful}
-use Rattle.cipher.specs.Cipher.{aesOf}
-use Rattle.cipher.proofs.Lawful.{key-lawful}
+use Rattle.fips197.specs.Cipher.{aesOf}
+use Rattle.fips197.proofs.Aes.{key-lawful}
 use Rattle.modes.specs.Modes.{over}
 use Rattle.cmac.specs.Cmac.{SameOutside}
 use Rattle.header.specs.Layout.{headOf}

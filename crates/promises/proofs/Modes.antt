@@ -10,8 +10,8 @@ use Rattle.octets.specs.Octets.{Bytes}
 use Rattle.octets.specs.Blocks.{BlockCipher, Lawful}
 use Rattle.sbox.specs.Sbox.{sBox}
 use Rattle.schedule.specs.Schedule.{scheduleOf, keyNumber}
-use Rattle.cipher.specs.Cipher.{aesOf}
-use Rattle.cipher.proofs.Lawful.{key-lawful}
+use Rattle.fips197.specs.Cipher.{aesOf}
+use Rattle.fips197.proofs.Aes.{key-lawful}
 use Rattle.modes.specs.Pieces.{made}
 use Rattle.modes.specs.Modes.{moded, ivLength, modeNumber, modeAnswer, modeOutput, over, common, through}
 use Rattle.modes.specs.Equations.{Equation}

@@ -8,8 +8,8 @@ use lib.ListN.{length, take, drop}
 use lib.Seq.{take-at, drop-at}
 use Rattle.octets.specs.Octets.{Bytes, Octets}
 use Rattle.octets.specs.Blocks.{BlockCipher, Lawful}
-use Rattle.cipher.specs.Cipher.{aesOf}
-use Rattle.cipher.proofs.Lawful.{key-lawful}
+use Rattle.fips197.specs.Cipher.{aesOf}
+use Rattle.fips197.proofs.Aes.{key-lawful}
 use Rattle.wrap.specs.Wrap.{initial, register, step, pass, passes, wrapped, unstep, unpass, unpasses, unwrapped}
 use Rattle.wrap.specs.Calls.{wrapNumber, sizeFits, wrappedSizeFits, wrapAnswer, unwrapAnswer, wrapOutput, unwrapOutput}
 use Rattle.wrap.specs.declared.WrapAnswer.{WrapAnswer}

@@ -6,7 +6,7 @@ use denote.Ref.{now}
 use native.Mathlib.Omega.{arith}
 use lib.ListN.{length, take, drop}
 use Rattle.octets.specs.Octets.{Bytes}
-use Rattle.cipher.specs.Cipher.{aesOf}
+use Rattle.fips197.specs.Cipher.{aesOf}
 use Rattle.wrap.specs.Wrap.{wrapped}
 use Rattle.wrap.specs.Calls.{wrapNumber, wrapOutput, unwrapAnswer, unwrapOutput}
 use Rattle.wrap.specs.declared.WrapAnswer.{WrapAnswer}

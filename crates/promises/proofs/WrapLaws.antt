@@ -15,7 +15,7 @@ use Rattle.octets.proofs.Blocks.{⊕-undo, ⊕-octets, take-bytes, drop-bytes, 
 use Rattle.octets.proofs.Words.{byte-lt}
 use Rattle.sbox.specs.Sbox.{sBox}
 use Rattle.schedule.specs.Schedule.{scheduleOf, keyNumber}
-use Rattle.cipher.specs.Cipher.{aesOf}
+use Rattle.fips197.specs.Cipher.{aesOf}
 use Rattle.blocks.specs.Blocks.{same}
 use Rattle.blocks.proofs.Laws.{same-true, same-refl}
 use Rattle.modes.specs.Modes.{over}

@@ -5,7 +5,7 @@ use mathlib.Core.List.{List}
 use Prim.Native.Nat.{ℕ, _+_, _≤_, _<_}
 use lib.ListN.{length}
 use Rattle.octets.specs.Octets.{Bytes}
-use Rattle.cipher.specs.Cipher.{aesOf}
+use Rattle.fips197.specs.Cipher.{aesOf}
 use Rattle.wrap.specs.Wrap.{initial, register, wrapped, unwrapped}
 use Rattle.wrap.specs.Calls.{sizeFits, wrappedSizeFits, wrapAnswer, wrapOutput, unwrapAnswer, unwrapOutput}
 use Rattle.wrap.specs.declared.WrapAnswer.{WrapAnswer}

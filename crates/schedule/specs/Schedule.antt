@@ -1,6 +1,7 @@
 -- KEYEXPANSION of FIPS 197, 5.2, over any substitution `sub` of bytes: the standard's is at `sBox`.
 -- Nk is the number of words of the key, Nr that of rounds. Assumes nothing: these are definitions.
 use Prim.Native.Nat.{ℕ, zero, suc, _+_, _-_, _*_, _/_, _%_}
+use mathlib.Core.Bool.{Bool, _||_}
 use mathlib.Core.List.{List, [], _∷_, _++_}
 use lib.Dec.{eqb, ltb}
 use lib.ListN.{length, getD, replicate}
@@ -59,3 +60,7 @@ scheduleOf sub key =
 abbrev pub keyNumber : KeyAnswer → ℕ
 keyNumber Taken = 0
 keyNumber KeyLength = 1
+
+-- the numbers of rounds that a key can give (table 3)
+abbrev pub roundCount : ℕ → Bool
+roundCount nr = eqb nr 10 || (eqb nr 12 || eqb nr 14)

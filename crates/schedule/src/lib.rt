@@ -10,7 +10,7 @@ ghost use lib.ListN.{length};
 ghost use Rattle.octets.specs.Octets.{padTo};
 ghost use Rattle.field.specs.Field.{xPower};
 ghost use Rattle.sbox.specs.Sbox.{sBox, entry};
-ghost use Rattle.schedule.specs.Schedule.{rCon, temp, keyWord, nextWord, keyExpansion, taken, scheduleOf};
+ghost use Rattle.schedule.specs.Schedule.{rCon, temp, keyWord, nextWord, keyExpansion, taken, scheduleOf, roundCount};
 
 // Whether the key was taken, or refused for its length.
 pub enum KeyAnswer {
@@ -71,6 +71,19 @@ impl KeySchedule {
             },
         }
     }
+}
+
+// Whether a key can give so many rounds.
+pub fn is_round_count(n: usize) -> bool
+    ensures { λ r. ⌜ r ≡ roundCount n ⌝ }
+{
+    if n == KeySchedule::ROUNDS_16 {
+        return true;
+    }
+    if n == KeySchedule::ROUNDS_24 {
+        return true;
+    }
+    n == KeySchedule::ROUNDS_32
 }
 
 // Of nk words of key, for nr rounds.

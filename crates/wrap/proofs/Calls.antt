@@ -14,10 +14,11 @@ use Rattle.octets.specs.Blocks.{Lawful}
 use Rattle.sbox.specs.Sbox.{sBox}
 use Rattle.schedule.specs.Schedule.{scheduleOf, keyNumber}
 use Rattle.schedule.specs.declared.Expanded.{Expanded}
-use Rattle.cipher.specs.Cipher.{aesOf}
-use Rattle.cipher.specs.Tables.{inverseWords}
+use Rattle.fips197.specs.Cipher.{aesOf}
+use Rattle.lookups.specs.Tables.{inverseWords}
 use Rattle.tables.specs.Tables.{forwardTable, inverseTable}
-use Rattle.cipher.proofs.Lawful.{lent-agrees, key-lawful}
+use Rattle.lookups.proofs.Lawful.{lent-agrees}
+use Rattle.fips197.proofs.Aes.{key-lawful}
 use Rattle.blocks.specs.Blocks.{same}
 use Rattle.modes.specs.Modes.{over}
 use Rattle.wrap.specs.Wrap.{initial, register, wrapped, unwrapped}

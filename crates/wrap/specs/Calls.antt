@@ -8,7 +8,7 @@ use Rattle.octets.specs.Octets.{choose}
 use Rattle.octets.specs.Blocks.{BlockCipher}
 use Rattle.sbox.specs.Sbox.{sBox}
 use Rattle.schedule.specs.Schedule.{scheduleOf, keyNumber}
-use Rattle.cipher.specs.Cipher.{aesOf}
+use Rattle.fips197.specs.Cipher.{aesOf}
 use Rattle.blocks.specs.Blocks.{same}
 use Rattle.modes.specs.Modes.{over}
 use Rattle.wrap.specs.Wrap.{initial, register, wrapped, unwrapped}

@@ -4,7 +4,7 @@ use mathlib.Core.List.{List}
 use lib.ListN.{drop}
 use Rattle.octets.specs.Octets.{choose}
 use Rattle.octets.specs.Blocks.{BlockCipher}
-use Rattle.cipher.specs.Tables.{oneTable}
+use Rattle.lookups.specs.Tables.{oneTable}
 use Rattle.blocks.specs.Blocks.{same}
 use Rattle.modes.specs.Modes.{over}
 use Rattle.wrap.specs.Wrap.{initial, register, unwrapped}

@@ -2,8 +2,8 @@
 use crate::registers::counted;
 use crate::registers::pair;
 use crate::registers::put_back;
-use cipher::decrypt_block;
-use cipher::encrypt_block;
+use rounds::decrypt_block;
+use rounds::encrypt_block;
 ghost use mathlib.Core.Path.{_≡_};
 ghost use Prim.Native.Nat.{_+_, _*_, _≤_, _<_};
 ghost use lib.ListN.{length};

@@ -1,5 +1,5 @@
 use mathlib.Core.Path.{_∙_}
-use Rattle.cipher.proofs.Back.{word-past, word-first, word-last, word-between}
+use Rattle.lookups.proofs.Back.{word-past, word-first, word-last, word-between}
 use denote.Ref.{now}
 use borrow.Author.Needs.{needs}
 use Rattle.cipher.proofs.inverse_word.Statement.{statement}

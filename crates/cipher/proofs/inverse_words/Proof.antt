@@ -1,5 +1,5 @@
-use Rattle.cipher.proofs.Steps.{round-count}
-use Rattle.cipher.specs.Tables.{inverseWords}
+use Rattle.fips197.proofs.Rounds.{round-count}
+use Rattle.lookups.specs.Tables.{inverseWords}
 use mathlib.Core.Path.{sym, _∙_}
 use borrow.Author.Needs.{needs}
 use Rattle.cipher.proofs.inverse_words.Statement.{statement}

@@ -1,4 +1,4 @@
-use Rattle.cipher.specs.Tables.{inverseWord}
+use Rattle.lookups.specs.Tables.{inverseWord}
 use Rattle.octets.proofs.Fill.{Filled, filled-none, filled-more, filled-all}
 use Prim.Native.Nat.{_≤_, _-_}
 use mathlib.Core.Path.{refl}

@@ -7,7 +7,7 @@ use mathlib.Core.Path.{_≡_, refl, sym, ap, _∙_}
 use denote.Ref.{now}
 use lib.ListN.{length, take, drop}
 use lib.Seq.{paste}
-use Rattle.cipher.specs.Tables.{oneTable}
+use Rattle.lookups.specs.Tables.{oneTable}
 use Rattle.modes.specs.Modes.{machine}
 use Rattle.modes.specs.Pieces.{piece, made, after}
 use Rattle.blocks.proofs.Laws.{block-at, block-put}

@@ -5,7 +5,7 @@ use mathlib.Core.Path.{_≡_, sym, ap, _∙_}
 use denote.Ref.{now}
 use lib.ListN.{length}
 use lib.Seq.{paste}
-use Rattle.cipher.specs.Tables.{oneTable}
+use Rattle.lookups.specs.Tables.{oneTable}
 use Rattle.modes.specs.Modes.{machine}
 use Rattle.modes.specs.Pieces.{piece}
 use Rattle.blocks.proofs.Laws.{block-at, block-put}

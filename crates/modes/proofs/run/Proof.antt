@@ -1,7 +1,7 @@
 use Prim.Native.Nat.{_-_}
 use denote.Ref.{now}
 use lib.ListN.{length}
-use Rattle.cipher.specs.Tables.{oneTable}
+use Rattle.lookups.specs.Tables.{oneTable}
 use Rattle.modes.specs.Modes.{machine, through}
 use Rattle.modes.proofs.Agree.{common-le}
 use Rattle.modes.proofs.Pieces.{pairs-all, pairs-last}

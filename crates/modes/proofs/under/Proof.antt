@@ -1,7 +1,7 @@
 use Prim.Native.Nat.{ℕ}
 use Rattle.modes.proofs.Agree.{through-forward, through-backward}
 use Rattle.modes.specs.Modes.{through}
-use Rattle.cipher.specs.Tables.{oneTable, inverseWords}
+use Rattle.lookups.specs.Tables.{oneTable, inverseWords}
 use Rattle.tables.specs.Tables.{forwardTable, inverseTable}
 use denote.Ref.{now}
 use mathlib.Core.List.{List}

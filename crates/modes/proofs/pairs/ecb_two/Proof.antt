@@ -1,5 +1,5 @@
 use mathlib.Core.Path.{refl, ap}
-use Rattle.cipher.specs.declared.Two.{Two}
+use Rattle.rounds.specs.declared.Two.{Two}
 use Rattle.modes.proofs.Twos.{same-stepped}
 use borrow.Author.Needs.{needs}
 use Rattle.modes.proofs.pairs.ecb_two.Statement.{statement}

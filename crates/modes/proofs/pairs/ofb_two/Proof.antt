@@ -2,7 +2,7 @@ use mathlib.Core.Path.{ap, _∙_}
 use denote.Ref.{now}
 use Rattle.octets.specs.Blocks.{_⊕_}
 use Rattle.sbox.specs.Sbox.{entry}
-use Rattle.cipher.specs.Tables.{tableEncrypt}
+use Rattle.lookups.specs.Tables.{tableEncrypt}
 use Rattle.modes.proofs.Twos.{same-stepped}
 use borrow.Author.Needs.{needs}
 use Rattle.modes.proofs.pairs.ofb_two.Statement.{statement}

@@ -1,7 +1,7 @@
 use mathlib.Core.Path.{_≡_, ap, _∙_}
 use lib.ListN.{length}
 use Rattle.sbox.specs.Sbox.{entry}
-use Rattle.cipher.specs.Tables.{tableEncrypt}
+use Rattle.lookups.specs.Tables.{tableEncrypt}
 use Rattle.wrap.specs.Lent.{lent}
 use Rattle.wrap.proofs.Passing.{step-by}
 use borrow.Author.Needs.{needs}

@@ -1,0 +1,29 @@
+-- The tables that the calls make are those of the standard, so a block under a key is the standard's. Assumes nothing.
+use mathlib.Core.Path.{_≡_}
+use mathlib.Core.List.{List}
+use Prim.Native.Nat.{ℕ}
+use Rattle.octets.specs.Octets.{Octets}
+use Rattle.sbox.specs.Sbox.{sBox, invSBox, entry}
+use Rattle.sbox.proofs.Laws.{entry-table, sBox-lt, invSBox-lt}
+use Rattle.words.specs.Columns.{mixedEntry, invMixedEntry}
+use Rattle.schedule.specs.Schedule.{scheduleOf}
+use Rattle.schedule.specs.declared.Expanded.{Expanded}
+use Rattle.cipher.specs.declared.Ciphered.{Ciphered}
+use Rattle.fips197.specs.Cipher.{rounds}
+use Rattle.cipher.specs.Calls.{encryptUnder, decryptUnder}
+use Rattle.lookups.specs.Tables.{tableEncrypt, tableDecrypt, inverseWords}
+use Rattle.lookups.proofs.Tables.{encrypt-table, decrypt-table}
+use Rattle.tables.specs.Tables.{forwardTable, inverseTable}
+
+module _ (key : List ℕ) {b : List ℕ} (o : Octets 16 b) where
+  pub encrypt-under : (k : Expanded) (t r : List ℕ) → t ≡ forwardTable → k ≡ scheduleOf sBox key
+      → r ≡ tableEncrypt (entry t) (k .schedule .words) (k .schedule .rounds) b → _≡_ {A = Ciphered} (record { answer = k .answer; block = r }) (encryptUnder key b)
+  unfolding encryptUnder
+  encrypt-under k t r pt pk pr =
+      rw (pr, pk, pt, encrypt-table sBox sBox-lt (entry forwardTable) (entry-table (mixedEntry sBox)) (scheduleOf sBox key .schedule .words) (scheduleOf sBox key .schedule .rounds) o)
+
+  pub decrypt-under : (k : Expanded) (t v r : List ℕ) → t ≡ inverseTable → k ≡ scheduleOf sBox key → v ≡ inverseWords (k .schedule .words) (k .schedule .rounds)
+      → r ≡ tableDecrypt (entry t) v (k .schedule .rounds) b → _≡_ {A = Ciphered} (record { answer = k .answer; block = r }) (decryptUnder key b)
+  unfolding decryptUnder
+  decrypt-under k t v r pt pk pv pr =
+      rw (pr, pv, pk, pt, decrypt-table invSBox invSBox-lt (entry inverseTable) (entry-table (invMixedEntry invSBox)) (scheduleOf sBox key .schedule .words) (scheduleOf sBox key .schedule .rounds) o)

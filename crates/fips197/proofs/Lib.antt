@@ -1,0 +1,5 @@
+pub mod State
+pub mod Undo
+pub mod Rounds
+pub mod Padding
+pub mod Aes

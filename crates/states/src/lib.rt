@@ -1,0 +1,86 @@
+// A state of four columns, each a word: a block loaded and stored, and the steps of a round of FIPS 197 by lookups in a table of words.
+use lookups::Columns;
+use words::join;
+use words::middles;
+use words::mix_column;
+use words::spun;
+ghost use mathlib.Core.Path.{_≡_};
+ghost use Rattle.sbox.specs.Sbox.{entry};
+ghost use Rattle.lookups.specs.Columns.{blockOf, columnsOf};
+ghost use Rattle.lookups.specs.Tables.{lookedLast, mixedEach};
+ghost use Rattle.lookups.specs.Tables as spec;
+
+pub fn load(block: [u8; 16]) -> Columns
+    ensures { λ r. ⌜ r ≡ columnsOf block ⌝ }
+{
+    Columns(
+        join(block[0], block[1], block[2], block[3]),
+        join(block[4], block[5], block[6], block[7]),
+        join(block[8], block[9], block[10], block[11]),
+        join(block[12], block[13], block[14], block[15]),
+    )
+}
+
+pub fn store(s: Columns) -> [u8; 16]
+    ensures { λ r. ⌜ r ≡ blockOf s ⌝ }
+{
+    [
+        (s.0 / 16777216 % 256) as u8,
+        (s.0 / 65536 % 256) as u8,
+        (s.0 / 256 % 256) as u8,
+        (s.0 % 256) as u8,
+        (s.1 / 16777216 % 256) as u8,
+        (s.1 / 65536 % 256) as u8,
+        (s.1 / 256 % 256) as u8,
+        (s.1 % 256) as u8,
+        (s.2 / 16777216 % 256) as u8,
+        (s.2 / 65536 % 256) as u8,
+        (s.2 / 256 % 256) as u8,
+        (s.2 % 256) as u8,
+        (s.3 / 16777216 % 256) as u8,
+        (s.3 / 65536 % 256) as u8,
+        (s.3 / 256 % 256) as u8,
+        (s.3 % 256) as u8,
+    ]
+}
+
+// Each column takes its four bytes from the columns that the shift brings there, substituted and mixed on the way.
+pub fn looked(table: &[u32; 256], s: Columns) -> Columns
+    ensures { λ r. ⌜ r ≡ spec.looked (entry (now (table .entry))) s ⌝ }
+{
+    Columns(
+        spun(table, s.0, s.1, s.2, s.3),
+        spun(table, s.1, s.2, s.3, s.0),
+        spun(table, s.2, s.3, s.0, s.1),
+        spun(table, s.3, s.0, s.1, s.2),
+    )
+}
+
+// The same without the mixing.
+pub fn looked_last(table: &[u32; 256], s: Columns) -> Columns
+    ensures { λ r. ⌜ r ≡ lookedLast (entry (now (table .entry))) s ⌝ }
+{
+    Columns(
+        middles(table, s.0, s.1, s.2, s.3),
+        middles(table, s.1, s.2, s.3, s.0),
+        middles(table, s.2, s.3, s.0, s.1),
+        middles(table, s.3, s.0, s.1, s.2),
+    )
+}
+
+pub fn mirrored(s: Columns) -> Columns
+    ensures { λ r. ⌜ r ≡ spec.mirrored s ⌝ }
+{
+    Columns(s.0, s.3, s.2, s.1)
+}
+
+pub fn mix_columns(s: Columns) -> Columns
+    ensures { λ r. ⌜ r ≡ mixedEach s ⌝ }
+{
+    Columns(
+        mix_column(s.0),
+        mix_column(s.1),
+        mix_column(s.2),
+        mix_column(s.3),
+    )
+}
