@@ -8,9 +8,8 @@ use Rattle.octets.specs.Octets.{choose}
 use Rattle.schedule.specs.Schedule.{keyNumber}
 use Rattle.schedule.specs.declared.Expanded.{Expanded}
 use Rattle.cipher.specs.declared.Ciphered.{Ciphered}
-use Rattle.modes.specs.Modes.{modeAnswer, modeOutput}
-use Rattle.modes.specs.declared.Mode.{Mode}
-use Rattle.modes.specs.declared.Way.{Way}
+use Rattle.modes.specs.Calls.{modeAnswer, modeOutput}
+use Rattle.sp800_38a.specs.declared.Operation.{Operation}
 use Rattle.cmac.specs.declared.Checked.{Checked}
 use Rattle.cmac.specs.declared.Started.{Started}
 use Rattle.header.specs.Rules.{reasonNumber, reasonValue}
@@ -38,8 +37,8 @@ abbrev pub blockAnswer : Ciphered → BlockAnswer
 blockAnswer c = record { number = keyNumber (c .answer); block = c .block }
 
 -- the output after a call of a mode
-unfoldable pub afterMode : Mode → Way → (key iv inp out : List ℕ) → List ℕ
-afterMode m w key iv inp out = modeOutput (modeAnswer m key iv inp out) m w key iv inp out
+unfoldable pub afterMode : Operation → (key iv inp out : List ℕ) → List ℕ
+afterMode o key iv inp out = modeOutput (modeAnswer o key iv inp out) o key iv inp out
 
 abbrev pub checkAnswer : Checked → CheckAnswer
 checkAnswer c = record { number = keyNumber (c .answer); check = c .check }

@@ -13,18 +13,16 @@ use crate::states::state_of;
 use cipher::Ciphered;
 use cmac::Record;
 use image::Turn;
-use modes::Mode;
-use modes::Way;
 use schedule::KeySchedule;
+use sp800_38a::Operation;
 ghost use mathlib.Core.Path.{_≡_};
 ghost use Rattle.field.specs.Field.{_•_};
 ghost use Rattle.sbox.specs.Sbox.{sBox};
 ghost use Rattle.schedule.specs.Schedule.{scheduleOf};
 ghost use Rattle.cipher.specs.Calls.{encryptUnder, decryptUnder};
-ghost use Rattle.modes.specs.declared.Mode.the-variants.{Ecb, Cbc, Cfb, Ofb};
-ghost use Rattle.modes.specs.declared.Way.the-variants.{Encrypt, Decrypt};
-ghost use Rattle.modes.specs.Modes.{modeNumber, modeAnswer};
-ghost use Rattle.cmac.specs.Running.{checkOf, startOf, fedWith, closeOf};
+ghost use Rattle.sp800_38a.specs.declared.Operation.the-variants.{EcbEncrypt, EcbDecrypt, CbcEncrypt, CbcDecrypt, CfbEncrypt, CfbDecrypt, OfbEncrypt, OfbDecrypt};
+ghost use Rattle.modes.specs.Calls.{modeNumber, modeAnswer};
+ghost use Rattle.cmac.specs.Calls.{checkOf, startOf, fedWith, closeOf};
 ghost use Rattle.image.specs.Calls as image;
 ghost use Rattle.wrap.specs.Calls.{wrapNumber, wrapAnswer, wrapOutput, unwrapAnswer, unwrapOutput};
 ghost use Rattle.abi.specs.Abi.{scheduleAnswer, blockAnswer, afterMode, checkAnswer, startAnswer, closeAnswer, readerOf, readStartAnswer, turnAnswer};
@@ -135,66 +133,66 @@ pub extern "C" fn dock_decrypt(key: &[u8], block: Block) -> BlockAnswer
 // The modes: the IV is empty in ECB and 16 bytes in the others.
 #[no_mangle]
 pub extern "C" fn dock_ecb_encrypt(key: &[u8], iv: &[u8], input: &[u8], output: &mut [u8]) -> u32
-    ensures answer { λ r. ⌜ r ≡ modeNumber (modeAnswer Ecb (now (key .entry)) (now (iv .entry)) (now (input .entry)) (now (output .entry))) ⌝ }
-    ensures written { λ _. ⌜ now (output .exit) ≡ afterMode Ecb Encrypt (now (key .entry)) (now (iv .entry)) (now (input .entry)) (now (output .entry)) ⌝ }
+    ensures answer { λ r. ⌜ r ≡ modeNumber (modeAnswer EcbEncrypt (now (key .entry)) (now (iv .entry)) (now (input .entry)) (now (output .entry))) ⌝ }
+    ensures written { λ _. ⌜ now (output .exit) ≡ afterMode EcbEncrypt (now (key .entry)) (now (iv .entry)) (now (input .entry)) (now (output .entry)) ⌝ }
 {
-    moded(Mode::Ecb, Way::Encrypt, key, iv, input, output)
+    moded(Operation::EcbEncrypt, key, iv, input, output)
 }
 
 #[no_mangle]
 pub extern "C" fn dock_ecb_decrypt(key: &[u8], iv: &[u8], input: &[u8], output: &mut [u8]) -> u32
-    ensures answer { λ r. ⌜ r ≡ modeNumber (modeAnswer Ecb (now (key .entry)) (now (iv .entry)) (now (input .entry)) (now (output .entry))) ⌝ }
-    ensures written { λ _. ⌜ now (output .exit) ≡ afterMode Ecb Decrypt (now (key .entry)) (now (iv .entry)) (now (input .entry)) (now (output .entry)) ⌝ }
+    ensures answer { λ r. ⌜ r ≡ modeNumber (modeAnswer EcbDecrypt (now (key .entry)) (now (iv .entry)) (now (input .entry)) (now (output .entry))) ⌝ }
+    ensures written { λ _. ⌜ now (output .exit) ≡ afterMode EcbDecrypt (now (key .entry)) (now (iv .entry)) (now (input .entry)) (now (output .entry)) ⌝ }
 {
-    moded(Mode::Ecb, Way::Decrypt, key, iv, input, output)
+    moded(Operation::EcbDecrypt, key, iv, input, output)
 }
 
 #[no_mangle]
 pub extern "C" fn dock_cbc_encrypt(key: &[u8], iv: &[u8], input: &[u8], output: &mut [u8]) -> u32
-    ensures answer { λ r. ⌜ r ≡ modeNumber (modeAnswer Cbc (now (key .entry)) (now (iv .entry)) (now (input .entry)) (now (output .entry))) ⌝ }
-    ensures written { λ _. ⌜ now (output .exit) ≡ afterMode Cbc Encrypt (now (key .entry)) (now (iv .entry)) (now (input .entry)) (now (output .entry)) ⌝ }
+    ensures answer { λ r. ⌜ r ≡ modeNumber (modeAnswer CbcEncrypt (now (key .entry)) (now (iv .entry)) (now (input .entry)) (now (output .entry))) ⌝ }
+    ensures written { λ _. ⌜ now (output .exit) ≡ afterMode CbcEncrypt (now (key .entry)) (now (iv .entry)) (now (input .entry)) (now (output .entry)) ⌝ }
 {
-    moded(Mode::Cbc, Way::Encrypt, key, iv, input, output)
+    moded(Operation::CbcEncrypt, key, iv, input, output)
 }
 
 #[no_mangle]
 pub extern "C" fn dock_cbc_decrypt(key: &[u8], iv: &[u8], input: &[u8], output: &mut [u8]) -> u32
-    ensures answer { λ r. ⌜ r ≡ modeNumber (modeAnswer Cbc (now (key .entry)) (now (iv .entry)) (now (input .entry)) (now (output .entry))) ⌝ }
-    ensures written { λ _. ⌜ now (output .exit) ≡ afterMode Cbc Decrypt (now (key .entry)) (now (iv .entry)) (now (input .entry)) (now (output .entry)) ⌝ }
+    ensures answer { λ r. ⌜ r ≡ modeNumber (modeAnswer CbcDecrypt (now (key .entry)) (now (iv .entry)) (now (input .entry)) (now (output .entry))) ⌝ }
+    ensures written { λ _. ⌜ now (output .exit) ≡ afterMode CbcDecrypt (now (key .entry)) (now (iv .entry)) (now (input .entry)) (now (output .entry)) ⌝ }
 {
-    moded(Mode::Cbc, Way::Decrypt, key, iv, input, output)
+    moded(Operation::CbcDecrypt, key, iv, input, output)
 }
 
 #[no_mangle]
 pub extern "C" fn dock_cfb_encrypt(key: &[u8], iv: &[u8], input: &[u8], output: &mut [u8]) -> u32
-    ensures answer { λ r. ⌜ r ≡ modeNumber (modeAnswer Cfb (now (key .entry)) (now (iv .entry)) (now (input .entry)) (now (output .entry))) ⌝ }
-    ensures written { λ _. ⌜ now (output .exit) ≡ afterMode Cfb Encrypt (now (key .entry)) (now (iv .entry)) (now (input .entry)) (now (output .entry)) ⌝ }
+    ensures answer { λ r. ⌜ r ≡ modeNumber (modeAnswer CfbEncrypt (now (key .entry)) (now (iv .entry)) (now (input .entry)) (now (output .entry))) ⌝ }
+    ensures written { λ _. ⌜ now (output .exit) ≡ afterMode CfbEncrypt (now (key .entry)) (now (iv .entry)) (now (input .entry)) (now (output .entry)) ⌝ }
 {
-    moded(Mode::Cfb, Way::Encrypt, key, iv, input, output)
+    moded(Operation::CfbEncrypt, key, iv, input, output)
 }
 
 #[no_mangle]
 pub extern "C" fn dock_cfb_decrypt(key: &[u8], iv: &[u8], input: &[u8], output: &mut [u8]) -> u32
-    ensures answer { λ r. ⌜ r ≡ modeNumber (modeAnswer Cfb (now (key .entry)) (now (iv .entry)) (now (input .entry)) (now (output .entry))) ⌝ }
-    ensures written { λ _. ⌜ now (output .exit) ≡ afterMode Cfb Decrypt (now (key .entry)) (now (iv .entry)) (now (input .entry)) (now (output .entry)) ⌝ }
+    ensures answer { λ r. ⌜ r ≡ modeNumber (modeAnswer CfbDecrypt (now (key .entry)) (now (iv .entry)) (now (input .entry)) (now (output .entry))) ⌝ }
+    ensures written { λ _. ⌜ now (output .exit) ≡ afterMode CfbDecrypt (now (key .entry)) (now (iv .entry)) (now (input .entry)) (now (output .entry)) ⌝ }
 {
-    moded(Mode::Cfb, Way::Decrypt, key, iv, input, output)
+    moded(Operation::CfbDecrypt, key, iv, input, output)
 }
 
 #[no_mangle]
 pub extern "C" fn dock_ofb_encrypt(key: &[u8], iv: &[u8], input: &[u8], output: &mut [u8]) -> u32
-    ensures answer { λ r. ⌜ r ≡ modeNumber (modeAnswer Ofb (now (key .entry)) (now (iv .entry)) (now (input .entry)) (now (output .entry))) ⌝ }
-    ensures written { λ _. ⌜ now (output .exit) ≡ afterMode Ofb Encrypt (now (key .entry)) (now (iv .entry)) (now (input .entry)) (now (output .entry)) ⌝ }
+    ensures answer { λ r. ⌜ r ≡ modeNumber (modeAnswer OfbEncrypt (now (key .entry)) (now (iv .entry)) (now (input .entry)) (now (output .entry))) ⌝ }
+    ensures written { λ _. ⌜ now (output .exit) ≡ afterMode OfbEncrypt (now (key .entry)) (now (iv .entry)) (now (input .entry)) (now (output .entry)) ⌝ }
 {
-    moded(Mode::Ofb, Way::Encrypt, key, iv, input, output)
+    moded(Operation::OfbEncrypt, key, iv, input, output)
 }
 
 #[no_mangle]
 pub extern "C" fn dock_ofb_decrypt(key: &[u8], iv: &[u8], input: &[u8], output: &mut [u8]) -> u32
-    ensures answer { λ r. ⌜ r ≡ modeNumber (modeAnswer Ofb (now (key .entry)) (now (iv .entry)) (now (input .entry)) (now (output .entry))) ⌝ }
-    ensures written { λ _. ⌜ now (output .exit) ≡ afterMode Ofb Decrypt (now (key .entry)) (now (iv .entry)) (now (input .entry)) (now (output .entry)) ⌝ }
+    ensures answer { λ r. ⌜ r ≡ modeNumber (modeAnswer OfbDecrypt (now (key .entry)) (now (iv .entry)) (now (input .entry)) (now (output .entry))) ⌝ }
+    ensures written { λ _. ⌜ now (output .exit) ≡ afterMode OfbDecrypt (now (key .entry)) (now (iv .entry)) (now (input .entry)) (now (output .entry)) ⌝ }
 {
-    moded(Mode::Ofb, Way::Decrypt, key, iv, input, output)
+    moded(Operation::OfbDecrypt, key, iv, input, output)
 }
 
 #[no_mangle]
@@ -320,11 +318,11 @@ fn block_answer(c: Ciphered) -> BlockAnswer
     }
 }
 
-fn moded(mode: Mode, way: Way, key: &[u8], iv: &[u8], input: &[u8], output: &mut [u8]) -> u32
-    ensures answer { λ r. ⌜ r ≡ modeNumber (modeAnswer mode (now (key .entry)) (now (iv .entry)) (now (input .entry)) (now (output .entry))) ⌝ }
-    ensures written { λ _. ⌜ now (output .exit) ≡ afterMode mode way (now (key .entry)) (now (iv .entry)) (now (input .entry)) (now (output .entry)) ⌝ }
+fn moded(operation: Operation, key: &[u8], iv: &[u8], input: &[u8], output: &mut [u8]) -> u32
+    ensures answer { λ r. ⌜ r ≡ modeNumber (modeAnswer operation (now (key .entry)) (now (iv .entry)) (now (input .entry)) (now (output .entry))) ⌝ }
+    ensures written { λ _. ⌜ now (output .exit) ≡ afterMode operation (now (key .entry)) (now (iv .entry)) (now (input .entry)) (now (output .entry)) ⌝ }
 {
-    let answer = modes::apply(mode, way, key, iv, input, output);
+    let answer = modes::apply(operation, key, iv, input, output);
     mode_number(answer)
 }
 

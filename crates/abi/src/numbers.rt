@@ -8,7 +8,7 @@ use schedule::KeyAnswer;
 use wrap::WrapAnswer;
 ghost use mathlib.Core.Path.{_≡_};
 ghost use Rattle.schedule.specs.Schedule.{keyNumber};
-ghost use Rattle.modes.specs.Modes.{modeNumber};
+ghost use Rattle.modes.specs.Calls.{modeNumber};
 ghost use Rattle.header.specs.Rules.{reasonNumber, reasonValue};
 ghost use Rattle.image.specs.Calls.{writeNumber, completionNumber};
 ghost use Rattle.wrap.specs.Calls.{wrapNumber};

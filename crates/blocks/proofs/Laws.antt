@@ -8,11 +8,11 @@ use borrow.Author.Tests.{le-leb, eq-eqb, ne-eqb, eqb-true}
 use lib.Dec.{eqb}
 use lib.ListN.{length, getD, take, drop, length-drop, drop-of-length-le}
 use lib.Seq.{paste, getD-take, getD-drop, length-take-le, drop-cons}
-use Rattle.octets.specs.Octets.{xor, tabulate, Bytes, Octets}
+use Rattle.octets.specs.Octets.{xor, tabulate, Bytes, Octets, same}
 use Rattle.octets.specs.Blocks.{_⊕_}
 use Rattle.octets.proofs.Fill.{is-tabulate}
 use Rattle.octets.proofs.Blocks.{⊕-length, take-octets, drop-bytes}
-use Rattle.blocks.specs.Blocks.{blockAt, blockPut, same}
+use Rattle.blocks.specs.Blocks.{blockAt, blockPut}
 
 pub part-tabulate : (s : List ℕ) (at : ℕ) → at + 16 ≤ length s → take 16 (drop at s) ≡ tabulate 16 (λ k. getD s (at + k) 0)
 part-tabulate s at h =

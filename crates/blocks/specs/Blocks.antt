@@ -1,8 +1,8 @@
 -- Sixteen bytes of a list from a place on. Assumes nothing: these are definitions.
 use Prim.Native.Nat.{ℕ, _+_}
-use mathlib.Core.Bool.{Bool, true, false, _&&_}
-use mathlib.Core.List.{List, [], _∷_}
-use lib.Dec.{eqb, leb}
+use mathlib.Core.Bool.{Bool}
+use mathlib.Core.List.{List}
+use lib.Dec.{leb}
 use lib.ListN.{length, take, drop, replicate}
 use lib.Seq.{paste}
 use Rattle.octets.specs.Octets.{choose}
@@ -18,10 +18,3 @@ blockAt s at = choose (fits (length s) at) (take 16 (drop at s)) (replicate 16 0
 -- the list with a block in their place; the list as it is where it ends before
 unfoldable pub blockPut : List ℕ → ℕ → List ℕ → List ℕ
 blockPut s at b = choose (fits (length s) at) (paste s at b 16) s
-
--- two lists are the same, element by element
-abbrev pub same : List ℕ → List ℕ → Bool
-same [] [] = true
-same [] (y ∷ b) = false
-same (x ∷ a) [] = false
-same (x ∷ a) (y ∷ b) = eqb x y && same a b

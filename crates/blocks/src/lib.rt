@@ -4,7 +4,8 @@ ghost use Prim.Native.Nat.{_+_, _≤_};
 ghost use lib.ListN.{length, take, drop};
 ghost use lib.Seq.{paste};
 ghost use Rattle.octets.specs.Blocks.{_⊕_};
-ghost use Rattle.blocks.specs.Blocks.{fits, blockAt, blockPut, same};
+ghost use Rattle.blocks.specs.Blocks.{fits, blockAt, blockPut};
+ghost use Rattle.octets.specs.Octets.{same};
 
 // The 16 bytes of s from a place on; zeros where s ends before.
 pub fn load(s: &[u8], at: usize) -> [u8; 16]

@@ -9,8 +9,7 @@ use tables::inverse_table;
 use words::inv_mix_column;
 ghost use mathlib.Core.Path.{_≡_};
 ghost use Prim.Native.Nat.{_<_};
-ghost use Rattle.octets.specs.Octets.{tabulate};
-ghost use Rattle.sbox.specs.Sbox.{entry};
+ghost use Rattle.octets.specs.Octets.{tabulate, entry};
 ghost use Rattle.cipher.specs.Calls.{encryptUnder, decryptUnder};
 ghost use Rattle.lookups.specs.Tables.{inverseWord, inverseWords};
 

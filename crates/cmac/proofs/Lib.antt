@@ -1,5 +1,2 @@
-pub mod Chain
-pub mod Filling
-pub mod OnePiece
 pub mod Under
 pub mod Parts

@@ -4,16 +4,17 @@ use mathlib.Core.Bool.{false}
 use mathlib.Core.List.{List, [], _∷_, _++_, append-nil, append-assoc}
 use Prim.Native.Nat.{ℕ}
 use lib.ListN.{replicate}
+use Rattle.octets.specs.Octets.{joined}
 use Rattle.sbox.specs.Sbox.{sBox}
-use Rattle.schedule.specs.Schedule.{scheduleOf}
-use Rattle.schedule.specs.Schedule.{roundCount}
-use Rattle.fips197.specs.Cipher.{encryptBlock}
-use Rattle.lookups.specs.Tables.{tableEncrypt}
-use Rattle.cmac.specs.Cmac.{ended, cmac}
-use Rattle.cmac.specs.Running.{takenIn, closed, lent, standard, checkOf, recordOf, startOf, fedWith, closeOf, fedParts, joined}
-use Rattle.cmac.specs.declared.Run.{Run}
+use Rattle.schedule.specs.Schedule.{scheduleOf, roundCount}
+use Rattle.fips197.specs.Cipher.{encryptBlock, standard}
+use Rattle.lookups.specs.Tables.{tableEncrypt, oneTable}
+use Rattle.sp800_38b.specs.Cmac.{ended, cmac}
+use Rattle.running.specs.Running.{takenIn, closed}
+use Rattle.cmac.specs.Calls.{checkOf, recordOf, startOf, fedWith, closeOf, fedParts}
+use Rattle.running.specs.declared.Run.{Run}
 use Rattle.cmac.specs.declared.Record.{Record}
-use Rattle.cmac.proofs.Chain.{fed-taken, begun-taken, whole}
+use Rattle.running.proofs.Laws.{fed-taken, begun-taken, whole}
 
 module _ (w : List ℕ) (nr : ℕ) where
   -- a record under a schedule, by the bytes that it was fed
@@ -38,7 +39,7 @@ pub cmac-zeros : (w : List ℕ) (nr : ℕ) (m : List ℕ) → roundCount nr ≡ 
 unfolding cmac ended encryptBlock
 cmac-zeros w nr m e = rw e
 
-pub lent-zeros : (table w : List ℕ) (nr : ℕ) (m : List ℕ) → roundCount nr ≡ false → cmac (lent table w nr) m ≡ replicate 16 0
+pub lent-zeros : (table w : List ℕ) (nr : ℕ) (m : List ℕ) → roundCount nr ≡ false → cmac (oneTable table w nr) m ≡ replicate 16 0
 unfolding cmac ended tableEncrypt
 lent-zeros table w nr m e = rw e
 

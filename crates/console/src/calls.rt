@@ -10,8 +10,7 @@ use args::Args;
 use basic::BasicCall;
 use checked::CheckCall;
 use imaged::ImageCall;
-use modes::Mode;
-use modes::Way;
+use sp800_38a::Operation;
 use wrapped::WrapCall;
 
 // A row has the name of a call, and from its place 16 on the form of its line: the letters are in args.rt.
@@ -42,7 +41,7 @@ const ROWS: [[u8; 24]; 22] = [
 
 pub enum Call {
     Basic(BasicCall),
-    Moded(Mode, Way),
+    Moded(Operation),
     Checked(CheckCall),
     Imaged(ImageCall),
     Wrapped(WrapCall),
@@ -56,14 +55,14 @@ fn call_at(k: usize) -> Call {
         1 => Call::Basic(BasicCall::Schedule),
         2 => Call::Basic(BasicCall::Encrypt),
         3 => Call::Basic(BasicCall::Decrypt),
-        4 => Call::Moded(Mode::Ecb, Way::Encrypt),
-        5 => Call::Moded(Mode::Ecb, Way::Decrypt),
-        6 => Call::Moded(Mode::Cbc, Way::Encrypt),
-        7 => Call::Moded(Mode::Cbc, Way::Decrypt),
-        8 => Call::Moded(Mode::Cfb, Way::Encrypt),
-        9 => Call::Moded(Mode::Cfb, Way::Decrypt),
-        10 => Call::Moded(Mode::Ofb, Way::Encrypt),
-        11 => Call::Moded(Mode::Ofb, Way::Decrypt),
+        4 => Call::Moded(Operation::EcbEncrypt),
+        5 => Call::Moded(Operation::EcbDecrypt),
+        6 => Call::Moded(Operation::CbcEncrypt),
+        7 => Call::Moded(Operation::CbcDecrypt),
+        8 => Call::Moded(Operation::CfbEncrypt),
+        9 => Call::Moded(Operation::CfbDecrypt),
+        10 => Call::Moded(Operation::OfbEncrypt),
+        11 => Call::Moded(Operation::OfbDecrypt),
         12 => Call::Checked(CheckCall::Whole),
         13 => Call::Checked(CheckCall::Start),
         14 => Call::Checked(CheckCall::Feed),
@@ -113,7 +112,7 @@ fn made(call: Call, held: Held, ins: &[u8], a: Args, outs: &mut [u8], text: &mut
     let at = held.end;
     match call {
         Call::Basic(c) => held.at(basic::answer(c, ins, a, text, at)),
-        Call::Moded(mode, way) => held.at(moded::answer(mode, way, ins, a, outs, text, at)),
+        Call::Moded(operation) => held.at(moded::answer(operation, ins, a, outs, text, at)),
         Call::Checked(c) => checked::answer(c, held, ins, a, text, at),
         Call::Imaged(c) => imaged::answer(c, held, ins, a, outs, text, at),
         Call::Wrapped(c) => held.at(wrapped::answer(c, ins, a, outs, text, at)),

@@ -78,7 +78,7 @@ fn turn(held: Held, ins: &[u8], a: Args, outs: &mut [u8], text: &mut [u8], at: u
 fn after_turn(held: Held, t: Turn, out: &[u8], text: &mut [u8], at: usize) -> Held {
     let reader = t.reader;
     let p = print::six(stopped::turn_numbers(t), text, at);
-    held.with_reader(reader).at(lines::put_hex(out, text, p))
+    held.with_reader(reader).at(places::put_hex(out, text, p))
 }
 
 fn complete(held: Held, text: &mut [u8], at: usize) -> usize {

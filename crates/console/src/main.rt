@@ -61,7 +61,7 @@ fn extend(p: Place, s: &[u8], line: &mut [u8]) -> Place {
         return Place { len: n, over: true };
     }
     Place {
-        len: lines::put(s, line, n),
+        len: places::put(s, line, n),
         over: p.over,
     }
 }
@@ -100,9 +100,9 @@ fn finish(
 
 fn close(from: usize, to: usize, text: &mut [u8]) -> usize {
     if from == to {
-        return lines::put(b"?\n", text, to);
+        return places::put(b"?\n", text, to);
     }
-    lines::put(b"\n", text, to)
+    places::put(b"\n", text, to)
 }
 
 // Reads `part` from `at` up to its next line feed, or its end.

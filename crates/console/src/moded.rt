@@ -2,13 +2,11 @@
 use crate::args;
 use crate::print;
 use args::Args;
-use modes::Mode;
 use modes::ModeAnswer;
-use modes::Way;
+use sp800_38a::Operation;
 
 pub fn answer(
-    mode: Mode,
-    way: Way,
+    operation: Operation,
     ins: &[u8],
     a: Args,
     outs: &mut [u8],
@@ -17,8 +15,7 @@ pub fn answer(
 ) -> usize {
     let n = args::out_len(a, 4, outs);
     let r = modes::apply(
-        mode,
-        way,
+        operation,
         args::bytes(ins, a, 1),
         args::bytes(ins, a, 2),
         args::bytes(ins, a, 3),

@@ -5,13 +5,13 @@ use crate::stopped::NONE;
 pub fn number(n: u64, text: &mut [u8], at: usize) -> usize {
     let mut digits = [0u8; 20];
     let k = io::decimal(n, &mut digits);
-    lines::put(&digits[..k], text, at)
+    places::put(&digits[..k], text, at)
 }
 
 // A number, or `-` for the mark that there is none.
 fn number_or_dash(n: u64, text: &mut [u8], at: usize) -> usize {
     if n == NONE {
-        return lines::put(b"-", text, at);
+        return places::put(b"-", text, at);
     }
     number(n, text, at)
 }
@@ -21,7 +21,7 @@ pub fn six(numbers: [u64; 6], text: &mut [u8], at: usize) -> usize {
     let mut p = at;
     for i in 0..6 {
         let q = number_or_dash(numbers[i], text, p);
-        p = lines::put(b" ", text, q);
+        p = places::put(b" ", text, q);
     }
     p
 }
@@ -29,8 +29,8 @@ pub fn six(numbers: [u64; 6], text: &mut [u8], at: usize) -> usize {
 // `N BYTES`
 pub fn number_bytes(n: u64, bytes: &[u8], text: &mut [u8], at: usize) -> usize {
     let p = number(n, text, at);
-    let q = lines::put(b" ", text, p);
-    lines::put_hex(bytes, text, q)
+    let q = places::put(b" ", text, p);
+    places::put_hex(bytes, text, q)
 }
 
 // A word as eight hex digits, the high byte first.
@@ -41,13 +41,13 @@ fn word(x: u32, text: &mut [u8], at: usize) -> usize {
         (x / 256 % 256) as u8,
         (x % 256) as u8,
     ];
-    lines::put_hex(&b, text, at)
+    places::put_hex(&b, text, at)
 }
 
 // `N WORDS`
 pub fn number_words(n: u64, words: [u32; 60], text: &mut [u8], at: usize) -> usize {
     let p = number(n, text, at);
-    let mut q = lines::put(b" ", text, p);
+    let mut q = places::put(b" ", text, p);
     for i in 0..60 {
         q = word(words[i], text, q);
     }

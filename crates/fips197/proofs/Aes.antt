@@ -10,10 +10,9 @@ use Rattle.octets.specs.Octets.{choose, Octets}
 use Rattle.octets.specs.Blocks.{Lawful}
 use Rattle.sbox.specs.Sbox.{sBox, invSBox}
 use Rattle.sbox.proofs.Laws.{sBox-lt, invSBox-lt, invSBox-sBox, sBox-invSBox}
-use Rattle.schedule.specs.Schedule.{taken, refused, scheduleOf, keyNumber}
+use Rattle.schedule.specs.Schedule.{taken, refused, scheduleOf, keyNumber, roundCount}
 use Rattle.schedule.specs.declared.Expanded.{Expanded}
 use Rattle.fips197.specs.State.{aes}
-use Rattle.schedule.specs.Schedule.{roundCount}
 use Rattle.fips197.specs.Cipher.{encryptBlock, decryptBlock, blockCipher, aesOf}
 use Rattle.fips197.proofs.State.{aes-regular}
 use Rattle.fips197.proofs.Undo.{Inverse, cipher-block, inv-cipher-block, decipher-cipher, cipher-decipher}

@@ -6,24 +6,21 @@ use Prim.Native.Nat.{ℕ, zero, suc, _-_, _*_, _%_, _≤_}
 use native.Mathlib.Omega.{arith}
 use lib.ListN.{length, take, drop, length-drop, replicate}
 use lib.Seq.{length-take-le}
-use Rattle.octets.specs.Octets.{Bytes, Octets, choose, padTo}
+use Rattle.octets.specs.Octets.{Bytes, Octets, choose, padTo, same}
 use Rattle.octets.specs.Blocks.{BlockCipher, Lawful}
 use Rattle.octets.proofs.Fill.{length-padTo}
 use Rattle.octets.proofs.Blocks.{take-bytes, drop-bytes, append-bytes, zeros-bytes, take-octets}
 use Rattle.schedule.specs.Schedule.{roundCount}
-use Rattle.lookups.specs.Tables.{inverseWords}
+use Rattle.lookups.specs.Tables.{inverseWords, oneTable}
 use Rattle.tables.specs.Tables.{forwardTable, inverseTable}
 use Rattle.lookups.proofs.Lawful.{Agree, lent-agrees}
 use Rattle.fips197.proofs.Aes.{aes-lawful}
-use Rattle.blocks.specs.Blocks.{same}
-use Rattle.modes.specs.Modes.{moded}
-use Rattle.modes.specs.declared.Mode.the-variants.{Cbc}
-use Rattle.modes.specs.declared.Way.the-variants.{Encrypt, Decrypt}
-use Rattle.modes.proofs.Agree.{moded-same}
-use Rattle.modes.proofs.Pieces.{made-bytes}
-use Rattle.modes.proofs.Undo.{ChainOf, keeps, whole}
-use Rattle.cmac.specs.Cmac.{cmac}
-use Rattle.cmac.specs.Running.{lent, standard}
+use Rattle.sp800_38a.specs.Modes.{moded}
+use Rattle.sp800_38a.specs.declared.Operation.the-variants.{CbcEncrypt, CbcDecrypt}
+use Rattle.pieces.proofs.Agree.{moded-same}
+use Rattle.sp800_38a.proofs.Sixteen.{bytes-16}
+use Rattle.sp800_38b.specs.Cmac.{cmac}
+use Rattle.fips197.specs.Cipher.{standard}
 use Rattle.cmac.proofs.Under.{cmac-table}
 use Rattle.header.specs.Layout.{headOf, headBytes}
 use Rattle.header.specs.Rules.{firstOf, done}
@@ -48,8 +45,8 @@ module _ (c d : BlockCipher) (a : Agree c d) (l : Lawful 16 d) where
       let h = take-octets 16 b (omega arith) bytes in
       let body = take 480 (drop 16 b) in
       let n : length body ≡ 480 = length-take-le 480 (drop 16 b) (omega (arith, length-drop 16 b)) in
-      ap (λ (x : List ℕ). moded c Cbc Decrypt x body) (a .enc-same (take 16 b) h)
-      ∙ moded-same c d a l Cbc Decrypt (d .enc (take 16 b)) body (l .enc-block (take 16 b) h) (take-bytes 480 (drop 16 b) (drop-bytes 16 b bytes)) (rw n refl)
+      ap (λ (x : List ℕ). moded 16 c CbcDecrypt x body) (a .enc-same (take 16 b) h)
+      ∙ moded-same c d a l CbcDecrypt (d .enc (take 16 b)) body (l .enc-block (take 16 b) h) (take-bytes 480 (drop 16 b) (drop-bytes 16 b bytes)) (rw n refl)
 
   module _ (h : Head) (p : List ℕ) (lp : length p ≤ 480) (bp : Bytes p) where
     filled-bytes : Bytes (filled p)
@@ -66,14 +63,14 @@ module _ (c d : BlockCipher) (a : Agree c d) (l : Lawful 16 d) where
     unfolding front
     front-same =
         ap (headBytes h ++_)
-        (ap (λ (x : List ℕ). moded c Cbc Encrypt x (filled p)) (a .enc-same (headBytes h) (head-octets h))
-        ∙ moded-same c d a l Cbc Encrypt (d .enc (headBytes h)) (filled p) iv-octets filled-bytes filled-pieces)
+        (ap (λ (x : List ℕ). moded 16 c CbcEncrypt x (filled p)) (a .enc-same (headBytes h) (head-octets h))
+        ∙ moded-same c d a l CbcEncrypt (d .enc (headBytes h)) (filled p) iv-octets filled-bytes filled-pieces)
 
     pub front-bytes : Bytes (front d h p)
     unfolding front
     front-bytes =
-        append-bytes (headBytes h) (moded d Cbc Encrypt (d .enc (headBytes h)) (filled p)) (head-octets h .bytes)
-        (made-bytes 16 _ (ChainOf Cbc) (Octets 16) (keeps d l Cbc Encrypt) _ (d .enc (headBytes h)) (filled p) iv-octets (whole d l Cbc Encrypt (d .enc (headBytes h)) (filled p) iv-octets filled-bytes filled-pieces))
+        append-bytes (headBytes h) (moded 16 d CbcEncrypt (d .enc (headBytes h)) (filled p)) (head-octets h .bytes)
+        (bytes-16 d l CbcEncrypt (d .enc (headBytes h)) (filled p) iv-octets filled-bytes filled-pieces)
 
 -- ---- the tables of the standard
 
@@ -81,22 +78,22 @@ module _ (t t' : List ℕ) (pt : t ≡ forwardTable) (pi : t' ≡ inverseTable) 
   both-agree : (w v : List ℕ) (nr : ℕ) → v ≡ inverseWords w nr → Agree (lentBoth t t' w v nr) (standard w nr)
   both-agree w v nr pv = rw (pt, pi, pv) (lent-agrees w nr)
 
-  cmac-lent : (w : List ℕ) (nr : ℕ) (m : List ℕ) → Bytes m → cmac (lent t w nr) m ≡ cmac (standard w nr) m
-  cmac-lent w nr m b = ap (λ (x : List ℕ). cmac (lent x w nr) m) pt ∙ cmac-table w nr m b
+  cmac-lent : (w : List ℕ) (nr : ℕ) (m : List ℕ) → Bytes m → cmac (oneTable t w nr) m ≡ cmac (standard w nr) m
+  cmac-lent w nr m b = ap (λ (x : List ℕ). cmac (oneTable x w nr) m) pt ∙ cmac-table w nr m b
 
-  checks-same : (w : List ℕ) (nr : ℕ) (b : List ℕ) → Bytes b → checks (lent t w nr) [] b ≡ checks (standard w nr) [] b
+  checks-same : (w : List ℕ) (nr : ℕ) (b : List ℕ) → Bytes b → checks (oneTable t w nr) [] b ≡ checks (standard w nr) [] b
   unfolding checks
   checks-same w nr b bytes =
       ap (λ (x : List ℕ). same x (drop 496 b)) (cmac-lent w nr (take 496 b ++ []) (append-bytes (take 496 b) [] (take-bytes 496 b bytes) (λ k. omega arith)))
 
   -- sealing needs the cipher one way only
-  front-forth : (w v : List ℕ) (nr : ℕ) (h : Head) (p : List ℕ) → front (lent t w nr) h p ≡ front (lentBoth t t' w v nr) h p
+  front-forth : (w v : List ℕ) (nr : ℕ) (h : Head) (p : List ℕ) → front (oneTable t w nr) h p ≡ front (lentBoth t t' w v nr) h p
   unfolding front
   front-forth w v nr h p = refl
 
   -- the block that the writer seals
   pub sealed-same : (ew cw : List ℕ) (en cn : ℕ) → Lawful 16 (standard ew en) → (h : Head) (p : List ℕ) → length p ≤ 480 → Bytes p
-      → sealed (lent t ew en) (lent t cw cn) [] h p ≡ sealed (standard ew en) (standard cw cn) [] h p
+      → sealed (oneTable t ew en) (oneTable t cw cn) [] h p ≡ sealed (standard ew en) (standard cw cn) [] h p
   unfolding sealed
   sealed-same ew cw en cn l h p lp bp =
       let both = lentBoth t t' ew (inverseWords ew en) en in
@@ -105,7 +102,7 @@ module _ (t t' : List ℕ) (pt : t ≡ forwardTable) (pi : t' ≡ inverseTable) 
       let f = front (standard ew en) h p in
       let b = front-bytes both (standard ew en) agree l h p lp bp in
       ap₂ (λ (x y : List ℕ). x ++ y) e
-      (ap (λ (x : List ℕ). cmac (lent t cw cn) (x ++ [])) e ∙ cmac-lent cw cn (f ++ []) (append-bytes f [] b (λ k. omega arith)))
+      (ap (λ (x : List ℕ). cmac (oneTable t cw cn) (x ++ [])) e ∙ cmac-lent cw cn (f ++ []) (append-bytes f [] b (λ k. omega arith)))
 
   -- ---- a reader's keys
 

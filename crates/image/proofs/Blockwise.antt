@@ -11,7 +11,7 @@ use Rattle.header.specs.declared.Progress.{Progress}
 use Rattle.header.specs.declared.Reason.{Reason}
 use Rattle.header.specs.declared.Verdict.{Verdict}
 use Rattle.header.specs.declared.Verdict.the-variants.{Accepted, Refused}
-use Rattle.modes.specs.Modes.{over}
+use Rattle.octets.specs.Octets.{over}
 use Rattle.image.specs.Sealed.{opened}
 use Rattle.image.specs.Judge.{Keys, judge, taken}
 use Rattle.image.specs.Turn.{Reading, later, onward, ran, cut}

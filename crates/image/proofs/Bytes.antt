@@ -8,9 +8,10 @@ use borrow.Author.Tests.{eq-eqb, ne-eqb}
 use lib.ListN.{length, getD, take, drop, length-drop, drop-of-length-le}
 use lib.Seq.{drop-cons, length-take-le, take-all}
 use Rattle.octets.specs.Blocks.{BlockCipher}
-use Rattle.blocks.specs.Blocks.{blockAt, same}
+use Rattle.blocks.specs.Blocks.{blockAt}
+use Rattle.octets.specs.Octets.{same}
 use Rattle.blocks.proofs.Laws.{block-at}
-use Rattle.cmac.specs.Cmac.{cmac}
+use Rattle.sp800_38b.specs.Cmac.{cmac}
 use Rattle.schedule.specs.Schedule.{roundCount}
 use Rattle.header.specs.Layout.{headOf}
 use Rattle.header.specs.declared.Head.{Head}

@@ -9,16 +9,14 @@ use denote.Enum.Declared.{tagOf}
 use borrow.Author.Tests.{eqb-true, ltb-false, leb-true}
 use lib.Dec.{eqb, ltb, leb}
 use lib.ListN.{length}
-use Rattle.octets.specs.Octets.{Bytes, choose}
+use Rattle.octets.specs.Octets.{Bytes, choose, over}
 use Rattle.sbox.specs.Sbox.{sBox}
 use Rattle.schedule.specs.Schedule.{scheduleOf, keyNumber}
 use Rattle.schedule.specs.declared.Expanded.{Expanded}
 use Rattle.schedule.specs.declared.KeyAnswer.the-variants.{Taken, KeyLength}
-use Rattle.lookups.specs.Tables.{inverseWords}
+use Rattle.lookups.specs.Tables.{inverseWords, oneTable}
 use Rattle.tables.specs.Tables.{forwardTable, inverseTable}
 use Rattle.fips197.proofs.Aes.{key-lawful}
-use Rattle.modes.specs.Modes.{over}
-use Rattle.cmac.specs.Running.{lent}
 use Rattle.header.specs.Rules.{countFits, lengthFits}
 use Rattle.image.specs.Sealed.{sealed}
 use Rattle.image.specs.Turn.{Reading, ran, cut}
@@ -146,7 +144,7 @@ module _ (ekey ckey : List ℕ) (e c : Expanded) (enc-is : e ≡ scheduleOf sBox
         first false y z = z
 
     pub written-by : (release : ℕ) (t o : List ℕ) → t ≡ forwardTable → Bytes payload → a ≡ Written
-        → o ≡ over (sealed (lent t (e .schedule .words) (e .schedule .rounds)) (lent t (c .schedule .words) (c .schedule .rounds)) [] (headFor number count release (length payload)) payload) out
+        → o ≡ over (sealed (oneTable t (e .schedule .words) (e .schedule .rounds)) (oneTable t (c .schedule .words) (c .schedule .rounds)) [] (headFor number count release (length payload)) payload) out
         → o ≡ writeOutput a ekey ckey number count release payload out
     written-by release t o pt bp q po =
         let h = headFor number count release (length payload) in

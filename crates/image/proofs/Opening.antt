@@ -19,13 +19,13 @@ use Rattle.schedule.specs.Schedule.{roundCount}
 use Rattle.lookups.specs.Tables.{tableEncrypt, tableDecrypt, tableForth, tableBack}
 use Rattle.lookups.specs.Columns.{blockOf, columnsOf}
 use Rattle.lookups.specs.declared.Columns.{Columns}
-use Rattle.modes.specs.Pieces.{made, piece}
-use Rattle.modes.specs.Modes.{machine, moded, through}
-use Rattle.modes.specs.Equations.{previous}
-use Rattle.modes.specs.declared.Mode.the-variants.{Cbc}
-use Rattle.modes.specs.declared.Way.the-variants.{Decrypt}
-use Rattle.modes.proofs.Pieces.{piece-suc, piece-zero}
-use Rattle.modes.proofs.Agree.{through-whole}
+use Rattle.sp800_38a.specs.Pieces.{made, piece}
+use Rattle.sp800_38a.specs.Modes.{machine, moded}
+use Rattle.pieces.specs.Runs.{through}
+use Rattle.sp800_38a.specs.Equations.{previous}
+use Rattle.sp800_38a.specs.declared.Operation.the-variants.{CbcDecrypt}
+use Rattle.sp800_38a.proofs.Pieces.{piece-suc, piece-zero}
+use Rattle.pieces.proofs.Agree.{through-whole}
 use Rattle.image.specs.Sealed.{opened, allZero}
 use Rattle.image.proofs.Bytes.{body-length}
 
@@ -54,29 +54,29 @@ module _ (c : BlockCipher) (sized : Sixteen (c .dec)) where
   out-size : (p st : List ℕ) → length st ≡ 16 → length (c .dec p ⊕ st) ≡ 16
   out-size p st h = ⊕-length (c .dec p) st (omega (arith, sized p)) ∙ sized p
 
-  made-size : (n : ℕ) (st s : List ℕ) → length st ≡ 16 → n * 16 ≤ length s → length (made 16 (machine c Cbc Decrypt) st n s) ≡ n * 16
+  made-size : (n : ℕ) (st s : List ℕ) → length st ≡ 16 → n * 16 ≤ length s → length (made 16 (machine c CbcDecrypt) st n s) ≡ n * 16
   unfolding made
   made-size zero st s h l = refl
   made-size (suc n) st s h l =
-      length-append (c .dec (take 16 s) ⊕ st) (made 16 (machine c Cbc Decrypt) (take 16 s) n (drop 16 s))
+      length-append (c .dec (take 16 s) ⊕ st) (made 16 (machine c CbcDecrypt) (take 16 s) n (drop 16 s))
       ∙ omega (arith, out-size (take 16 s) st h, made-size n (take 16 s) (drop 16 s) (length-take-le 16 s (omega arith)) (omega (arith, length-drop 16 s)))
 
   -- what a piece is chained to, after one piece more
-  previous-suc : (st s : List ℕ) (i : ℕ) → previous (take 16 s) (drop 16 s) i ≡ previous st s (suc i)
-  previous-suc st s zero = sym (piece-zero 16 (machine c Cbc Decrypt) s)
-  previous-suc st s (suc i) = sym (piece-suc 16 (machine c Cbc Decrypt) s i)
+  previous-suc : (st s : List ℕ) (i : ℕ) → previous 16 (take 16 s) (drop 16 s) i ≡ previous 16 st s (suc i)
+  previous-suc st s zero = sym (piece-zero 16 (machine c CbcDecrypt) s)
+  previous-suc st s (suc i) = sym (piece-suc 16 (machine c CbcDecrypt) s i)
 
   made-piece : (n i : ℕ) (st s : List ℕ) → length st ≡ 16 → n * 16 ≤ length s → i < n
-      → piece 16 (made 16 (machine c Cbc Decrypt) st n s) i ≡ c .dec (piece 16 s i) ⊕ previous st s i
+      → piece 16 (made 16 (machine c CbcDecrypt) st n s) i ≡ c .dec (piece 16 s i) ⊕ previous 16 st s i
   unfolding made
   made-piece zero i st s h l k = absurd (not-suc-le-zero k)
   made-piece (suc n) zero st s h l k =
-      let m = machine c Cbc Decrypt in
+      let m = machine c CbcDecrypt in
       let r = made 16 m (take 16 s) n (drop 16 s) in
       piece-zero 16 m ((c .dec (take 16 s) ⊕ st) ++ r) ∙ take-at (c .dec (take 16 s) ⊕ st) r 16 (out-size (take 16 s) st h)
       ∙ ap (λ (x : List ℕ). c .dec x ⊕ st) (sym (piece-zero 16 m s))
   made-piece (suc n) (suc i) st s h l k =
-      let m = machine c Cbc Decrypt in
+      let m = machine c CbcDecrypt in
       let r = made 16 m (take 16 s) n (drop 16 s) in
       piece-suc 16 m ((c .dec (take 16 s) ⊕ st) ++ r) i
       ∙ ap (λ (x : List ℕ). piece 16 x i) (drop-at (c .dec (take 16 s) ⊕ st) r 16 (out-size (take 16 s) st h))
@@ -97,10 +97,10 @@ module _ (b : List ℕ) (size : length b ≡ 512) where
       ∙ ap (drop (i * 16)) (sym (take-take (i * 16 + 16) 480 (drop 16 b) (omega arith)))
       ∙ middle-of (take 480 (drop 16 b)) (i * 16) (omega (arith, body-length b size))
 
-  pub first-chain : (iv : List ℕ) (i : ℕ) → i ≡ 0 → iv ≡ previous iv (take 480 (drop 16 b)) i
+  pub first-chain : (iv : List ℕ) (i : ℕ) → i ≡ 0 → iv ≡ previous 16 iv (take 480 (drop 16 b)) i
   first-chain iv i e = rw e
 
-  pub later-chain : (iv : List ℕ) (i : ℕ) → (i ≡ 0 → ⊥) → i < 30 → blockAt b (16 * i) ≡ previous iv (take 480 (drop 16 b)) i
+  pub later-chain : (iv : List ℕ) (i : ℕ) → (i ≡ 0 → ⊥) → i < 30 → blockAt b (16 * i) ≡ previous 16 iv (take 480 (drop 16 b)) i
   later-chain iv zero n h = absurd (n refl)
   later-chain iv (suc i) n h = let e : 16 * suc i ≡ 16 + 16 * i = omega arith in ap (blockAt b) e ∙ body-piece i (omega arith)
 
@@ -108,15 +108,15 @@ module _ (b : List ℕ) (size : length b ≡ 512) where
     pieces-of : (length (take 480 (drop 16 b)) + 15) / 16 ≡ 30
     pieces-of = rw (body-length b size) refl
 
-    opened-made : opened c b ≡ made 16 (machine c Cbc Decrypt) (c .enc (take 16 b)) 30 (take 480 (drop 16 b))
+    opened-made : opened c b ≡ made 16 (machine c CbcDecrypt) (c .enc (take 16 b)) 30 (take 480 (drop 16 b))
     unfolding opened
-    opened-made = ap (λ (n : ℕ). made 16 (machine c Cbc Decrypt) (c .enc (take 16 b)) n (take 480 (drop 16 b))) pieces-of
+    opened-made = ap (λ (n : ℕ). made 16 (machine c CbcDecrypt) (c .enc (take 16 b)) n (take 480 (drop 16 b))) pieces-of
 
     pub opened-size : length (opened c b) ≡ 480
     opened-size = ap length opened-made ∙ made-size c ds 30 (c .enc (take 16 b)) (take 480 (drop 16 b)) (es (take 16 b)) (omega (arith, body-length b size))
 
     -- piece i as the code makes it
-    pub piece-by : (i : ℕ) → i < 30 → (chain cipher plain r : List ℕ) → chain ≡ previous (c .enc (take 16 b)) (take 480 (drop 16 b)) i
+    pub piece-by : (i : ℕ) → i < 30 → (chain cipher plain r : List ℕ) → chain ≡ previous 16 (c .enc (take 16 b)) (take 480 (drop 16 b)) i
         → cipher ≡ blockAt b (16 + 16 * i) → plain ≡ c .dec cipher → r ≡ plain ⊕ chain → r ≡ piece 16 (opened c b) i
     piece-by i h chain cipher plain r ec ep ed er =
         er ∙ ap₂ _⊕_ (ed ∙ ap (c .dec) (ep ∙ body-piece i h)) ec
@@ -125,7 +125,7 @@ module _ (b : List ℕ) (size : length b ≡ 512) where
 
     -- the block opened into part of an output
     pub open-by : (out : List ℕ) (at n : ℕ) → at + 480 ≤ length out → n ≡ 480 → (first iv part o : List ℕ) → first ≡ blockAt b 0 → iv ≡ c .enc first
-        → part ≡ through c Cbc Decrypt iv (take 480 (drop 16 b)) (take n (drop at out)) → o ≡ take at out ++ (part ++ drop n (drop at out))
+        → part ≡ through c CbcDecrypt iv (take 480 (drop 16 b)) (take n (drop at out)) .1 → o ≡ take at out ++ (part ++ drop n (drop at out))
         → o ≡ paste out at (opened c b) 480
     unfolding opened
     open-by out at n room en first iv part o ef ei ep eo =
@@ -133,8 +133,8 @@ module _ (b : List ℕ) (size : length b ≡ 512) where
         let l : length (take 480 (drop 16 b)) ≡ length (take n (drop at out)) =
         body-length b size ∙ sym (length-take-le n (drop at out) (omega (arith, length-drop at out)) ∙ en) in
         let p : part ≡ opened c b =
-        ep ∙ through-whole c Cbc Decrypt iv (take 480 (drop 16 b)) (take n (drop at out)) (rw (body-length b size) refl) l
-        ∙ ap (λ (x : List ℕ). moded c Cbc Decrypt x (take 480 (drop 16 b))) e in
+        ep ∙ ap (λ (x : List ℕ × List ℕ). x .1) (through-whole c CbcDecrypt iv (take 480 (drop 16 b)) (take n (drop at out)) (rw (body-length b size) refl) l)
+        ∙ ap (λ (x : List ℕ). moded 16 c CbcDecrypt x (take 480 (drop 16 b))) e in
         let q : part ≡ take 480 (opened c b) = p ∙ sym (take-all 480 (opened c b) (omega (arith, opened-size))) in
         let d : drop n (drop at out) ≡ drop (at + 480) out = ap (λ (k : ℕ). drop k (drop at out)) en ∙ drop-drop 480 at out in
         eo ∙ ap₂ (λ (x y : List ℕ). take at out ++ (x ++ y)) q d ∙ sym (append-assoc (take at out) (take 480 (opened c b)) (drop (at + 480) out))

@@ -5,16 +5,16 @@ use Prim.Native.Nat.{ℕ, _+_, _≤_}
 use native.Mathlib.Omega.{arith}
 use lib.ListN.{length, take, drop, length-append, length-drop}
 use lib.Seq.{take-all, take-at, drop-at, drop-drop, length-take-le}
-use Rattle.octets.specs.Octets.{padTo}
+use Rattle.octets.specs.Octets.{padTo, over}
 use Rattle.octets.specs.Blocks.{BlockCipher}
 use Rattle.octets.proofs.Fill.{length-padTo}
 use Rattle.blocks.specs.Blocks.{blockPut}
 use Rattle.blocks.proofs.Laws.{block-put}
-use Rattle.modes.specs.Modes.{moded, over, through}
-use Rattle.modes.specs.declared.Mode.the-variants.{Cbc}
-use Rattle.modes.specs.declared.Way.the-variants.{Encrypt}
-use Rattle.modes.proofs.Agree.{through-whole}
-use Rattle.cmac.specs.Cmac.{cmac}
+use Rattle.sp800_38a.specs.Modes.{moded}
+use Rattle.pieces.specs.Runs.{through}
+use Rattle.sp800_38a.specs.declared.Operation.the-variants.{CbcEncrypt}
+use Rattle.pieces.proofs.Agree.{through-whole}
+use Rattle.sp800_38b.specs.Cmac.{cmac}
 use Rattle.header.specs.Layout.{headBytes}
 use Rattle.header.specs.declared.Head.{Head}
 use Rattle.header.proofs.Laws.{head-octets}
@@ -27,7 +27,7 @@ put-is s at b h e =
 
 module _ (c k : BlockCipher) (h : Head) (payload out : List ℕ) (lp : length payload ≤ 480) (lo : 512 ≤ length out)
     (first iv plain o1 body o2 made o3 : List ℕ) (e1 : first ≡ headBytes h) (e2 : iv ≡ c .enc first) (e3 : plain ≡ padTo 480 payload) (e4 : o1 ≡ blockPut out 0 first)
-    (e5 : body ≡ through c Cbc Encrypt iv plain (take 480 (drop 16 o1))) (l5 : length body ≡ length (take 480 (drop 16 o1)))
+    (e5 : body ≡ through c CbcEncrypt iv plain (take 480 (drop 16 o1)) .1) (l5 : length body ≡ length (take 480 (drop 16 o1)))
     (e6 : o2 ≡ take 16 o1 ++ (body ++ drop 480 (drop 16 o1))) (e7 : made ≡ cmac k (take 496 o2)) (l7 : length made ≡ 16) (e8 : o3 ≡ blockPut o2 496 made) where
   first-size : length first ≡ 16
   first-size = ap length e1 ∙ head-octets h .size
@@ -41,10 +41,10 @@ module _ (c k : BlockCipher) (h : Head) (payload out : List ℕ) (lp : length pa
   middle-size : length (take 480 (drop 16 o1)) ≡ 480
   middle-size = length-take-le 480 (drop 16 o1) (omega (arith, length-drop 16 o1, ap length after-head, length-append first (drop 16 out), first-size, length-drop 16 out))
 
-  body-is : body ≡ moded c Cbc Encrypt (c .enc (headBytes h)) (padTo 480 payload)
+  body-is : body ≡ moded 16 c CbcEncrypt (c .enc (headBytes h)) (padTo 480 payload)
   body-is =
-      e5 ∙ through-whole c Cbc Encrypt iv plain (take 480 (drop 16 o1)) (rw plain-size refl) (plain-size ∙ sym middle-size)
-      ∙ ap₂ (λ (x y : List ℕ). moded c Cbc Encrypt x y) (e2 ∙ ap (c .enc) e1) e3
+      e5 ∙ ap (λ (x : List ℕ × List ℕ). x .1) (through-whole c CbcEncrypt iv plain (take 480 (drop 16 o1)) (rw plain-size refl) (plain-size ∙ sym middle-size))
+      ∙ ap₂ (λ (x y : List ℕ). moded 16 c CbcEncrypt x y) (e2 ∙ ap (c .enc) e1) e3
 
   front-is : first ++ body ≡ front c h payload
   unfolding front

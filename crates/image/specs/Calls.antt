@@ -4,17 +4,14 @@ use mathlib.Core.Bool.{Bool, _&&_, not}
 use mathlib.Core.List.{List, []}
 use lib.Dec.{eqb, ltb, leb}
 use lib.ListN.{length, replicate}
-use Rattle.octets.specs.Octets.{choose}
+use Rattle.octets.specs.Octets.{choose, over}
 use Rattle.sbox.specs.Sbox.{sBox}
-use Rattle.schedule.specs.Schedule.{scheduleOf, keyNumber}
+use Rattle.schedule.specs.Schedule.{scheduleOf, keyNumber, roundCount}
 use Rattle.schedule.specs.declared.Expanded.{Expanded}
 use Rattle.schedule.specs.declared.KeySchedule.{KeySchedule}
 use Rattle.schedule.specs.declared.KeyAnswer.{KeyAnswer}
 use Rattle.schedule.specs.declared.KeyAnswer.the-variants.{Taken, KeyLength}
-use Rattle.schedule.specs.Schedule.{roundCount}
-use Rattle.fips197.specs.Cipher.{aesOf}
-use Rattle.cmac.specs.Running.{standard}
-use Rattle.modes.specs.Modes.{over}
+use Rattle.fips197.specs.Cipher.{aesOf, standard}
 use Rattle.header.specs.Layout.{bodySize, blockSize}
 use Rattle.header.specs.Rules.{done, countFits, lengthFits, reasonNumber, reasonValue}
 use Rattle.header.specs.declared.Head.{Head}

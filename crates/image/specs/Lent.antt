@@ -1,4 +1,4 @@
--- The definitions as the code has them, over lent tables and with the answers in the code's own records. Assumes nothing: these are definitions.
+-- The definitions as the code has them, over oneTable tables and with the answers in the code's own records. Assumes nothing: these are definitions.
 use Prim.Native.Nat.{ℕ}
 use mathlib.Core.Bool.{Bool, _&&_}
 use mathlib.Core.List.{List}
@@ -6,7 +6,7 @@ use lib.Seq.{paste}
 use Rattle.octets.specs.Blocks.{BlockCipher}
 use Rattle.schedule.specs.Schedule.{roundCount}
 use Rattle.lookups.specs.Tables.{tableCipher}
-use Rattle.cmac.specs.Running.{lent}
+use Rattle.lookups.specs.Tables.{oneTable}
 use Rattle.header.specs.Layout.{bodySize, headOf}
 use Rattle.header.specs.declared.Progress.{Progress}
 use Rattle.header.specs.declared.Verdict.{Verdict}
@@ -17,7 +17,7 @@ use Rattle.image.specs.declared.Rounds.{Rounds}
 use Rattle.image.specs.declared.turns.Took.{Took}
 use Rattle.image.specs.declared.turns.Ran.{Ran}
 
--- both ways through lent tables and schedules
+-- both ways through oneTable tables and schedules
 abbrev pub lentBoth : (forth back ewords dwords : List ℕ) (rounds : ℕ) → BlockCipher
 lentBoth = tableCipher
 
@@ -27,7 +27,7 @@ usable n = roundCount (n .enc) && roundCount (n .chk)
 abbrev pub lentKeys : (forth back ewords dwords cwords : List ℕ) → Rounds → Keys
 lentKeys forth back ewords dwords cwords n = record {
   enc = lentBoth forth back ewords dwords (n .enc);
-  chk = lent forth cwords (n .chk);
+  chk = oneTable forth cwords (n .chk);
   usable = usable n;
 }
 

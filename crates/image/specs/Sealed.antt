@@ -4,13 +4,11 @@ use mathlib.Core.Bool.{Bool, true, _&&_}
 use mathlib.Core.List.{List, [], _∷_, _++_}
 use lib.Dec.{eqb}
 use lib.ListN.{take, drop}
-use Rattle.octets.specs.Octets.{padTo}
+use Rattle.octets.specs.Octets.{padTo, same}
 use Rattle.octets.specs.Blocks.{BlockCipher}
-use Rattle.blocks.specs.Blocks.{same}
-use Rattle.modes.specs.Modes.{moded}
-use Rattle.modes.specs.declared.Mode.the-variants.{Cbc}
-use Rattle.modes.specs.declared.Way.the-variants.{Encrypt, Decrypt}
-use Rattle.cmac.specs.Cmac.{cmac}
+use Rattle.sp800_38a.specs.Modes.{moded}
+use Rattle.sp800_38a.specs.declared.Operation.the-variants.{CbcEncrypt, CbcDecrypt}
+use Rattle.sp800_38b.specs.Cmac.{cmac}
 use Rattle.header.specs.Layout.{headSize, bodySize, checkAt, headOf, headBytes}
 use Rattle.header.specs.declared.Head.{Head}
 
@@ -22,7 +20,7 @@ filled p = padTo bodySize p
 
 -- bytes 0 to 495: the header, and payload and fill in CBC, whose IV is the header enciphered
 unfoldable pub front : BlockCipher → Head → List ℕ → List ℕ
-front ek h p = headBytes h ++ moded ek Cbc Encrypt (ek .enc (headBytes h)) (filled p)
+front ek h p = headBytes h ++ moded 16 ek CbcEncrypt (ek .enc (headBytes h)) (filled p)
 
 -- what the check covers: bytes 0 to 495, then a tail, which is empty in every image of today
 abbrev pub covered : (front tail : List ℕ) → List ℕ
@@ -36,7 +34,7 @@ sealed ek ck tail h p = front ek h p ++ cmac ck (covered (front ek h p) tail)
 
 -- the 480 decrypted bytes
 unfoldable pub opened : BlockCipher → List ℕ → List ℕ
-opened ek b = moded ek Cbc Decrypt (ek .enc (take headSize b)) (take bodySize (drop headSize b))
+opened ek b = moded 16 ek CbcDecrypt (ek .enc (take headSize b)) (take bodySize (drop headSize b))
 
 -- bytes 496 to 511 are the check, all sixteen
 unfoldable pub checks : BlockCipher → (tail b : List ℕ) → Bool

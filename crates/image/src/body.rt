@@ -6,19 +6,17 @@ use blocks::store;
 use cmac::check_with;
 use header::Head;
 use header::head_bytes;
-use modes::Mode;
-use modes::Way;
 use rounds::encrypt_block;
+use sp800_38a::Operation;
 ghost use mathlib.Core.Path.{_≡_};
 ghost use mathlib.Core.Bool.{_&&_};
 ghost use mathlib.Core.List.{[]};
 ghost use Prim.Native.Nat.{_+_, _≤_};
 ghost use lib.ListN.{length};
 ghost use lib.Seq.{paste};
-ghost use Rattle.octets.specs.Octets.{padTo};
+ghost use Rattle.octets.specs.Octets.{padTo, over};
 ghost use Rattle.schedule.specs.Schedule.{roundCount};
-ghost use Rattle.cmac.specs.Running.{lent};
-ghost use Rattle.modes.specs.Modes.{over};
+ghost use Rattle.lookups.specs.Tables.{oneTable};
 ghost use Rattle.image.specs.Sealed as spec;
 ghost use Rattle.image.specs.Lent.{lentBoth, usable};
 
@@ -37,12 +35,11 @@ pub fn open_into(
     ensures { λ _. ⌜ now (output .exit) ≡ paste (now (output .entry)) at (spec.opened (lentBoth (now (forth .entry)) (now (back .entry)) (now (ewords .entry)) (now (dwords .entry)) rounds) (now (block .entry))) 480 ⌝ }
 {
     let iv = encrypt_block(forth, ewords, rounds, load(block, 0));
-    modes::run(
+    pieces::run(
         back,
         dwords,
         rounds,
-        Mode::Cbc,
-        Way::Decrypt,
+        Operation::CbcDecrypt,
         iv,
         &block[16..496],
         &mut output[at..at + 480],
@@ -52,7 +49,7 @@ pub fn open_into(
 // Whether the block carries its check, all 16 bytes. Under a schedule that no key gave, no check is right.
 pub fn check_holds(forth: &[u32; 256], words: &[u32; 60], rounds: Rounds, block: &[u8]) -> bool
     requires { ⌜ length (now block) ≡ 512 ⌝ }
-    ensures { λ r. ⌜ r ≡ usable rounds && spec.checks (lent (now (forth .entry)) (now (words .entry)) (rounds .chk)) [] (now (block .entry)) ⌝ }
+    ensures { λ r. ⌜ r ≡ usable rounds && spec.checks (oneTable (now (forth .entry)) (now (words .entry)) (rounds .chk)) [] (now (block .entry)) ⌝ }
 {
     if !known(rounds.enc) {
         return false;
@@ -100,18 +97,17 @@ pub fn seal(
     output: &mut [u8],
 )
     requires { ⌜ (length (now payload) ≤ 480) × (512 ≤ length (now output)) ⌝ }
-    ensures { λ _. ⌜ now (output .exit) ≡ over (spec.sealed (lent (now (forth .entry)) (now (ewords .entry)) (rounds .enc)) (lent (now (forth .entry)) (now (cwords .entry)) (rounds .chk)) [] head (now (payload .entry))) (now (output .entry)) ⌝ }
+    ensures { λ _. ⌜ now (output .exit) ≡ over (spec.sealed (oneTable (now (forth .entry)) (now (ewords .entry)) (rounds .enc)) (oneTable (now (forth .entry)) (now (cwords .entry)) (rounds .chk)) [] head (now (payload .entry))) (now (output .entry)) ⌝ }
 {
     let first = head_bytes(head);
     let iv = encrypt_block(forth, ewords, rounds.enc, first);
     let plain = filled(payload);
     store(output, 0, first);
-    modes::run(
+    pieces::run(
         forth,
         ewords,
         rounds.enc,
-        Mode::Cbc,
-        Way::Encrypt,
+        Operation::CbcEncrypt,
         iv,
         &plain,
         &mut output[16..496],

@@ -6,10 +6,10 @@ use rounds::encrypt_block;
 ghost use mathlib.Core.Path.{_≡_};
 ghost use Prim.Native.Nat.{_<_};
 ghost use lib.ListN.{length, take, drop};
-ghost use Rattle.sbox.specs.Sbox.{entry};
+ghost use Rattle.octets.specs.Octets.{entry};
 ghost use Rattle.lookups.specs.Tables.{tableEncrypt};
-ghost use Rattle.modes.specs.Pieces.{piece};
-ghost use Rattle.modes.specs.Equations.{previous};
+ghost use Rattle.sp800_38a.specs.Pieces.{piece};
+ghost use Rattle.sp800_38a.specs.Equations.{previous};
 ghost use Rattle.image.specs.Sealed as spec;
 ghost use Rattle.image.specs.Lent.{lentBoth};
 
@@ -66,7 +66,7 @@ fn chain_before(
     i: usize,
 ) -> [u8; 16]
     requires { ⌜ (length (now block) ≡ 512) × (i < 30) ⌝ }
-    ensures { λ r. ⌜ r ≡ previous (tableEncrypt (entry (now (forth .entry))) (now (ewords .entry)) rounds (take 16 (now (block .entry)))) (take 480 (drop 16 (now (block .entry)))) i ⌝ }
+    ensures { λ r. ⌜ r ≡ previous 16 (tableEncrypt (entry (now (forth .entry))) (now (ewords .entry)) rounds (take 16 (now (block .entry)))) (take 480 (drop 16 (now (block .entry)))) i ⌝ }
 {
     let ciphertext = load(block, 16 * i);
     if i == 0 {

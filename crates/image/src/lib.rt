@@ -22,7 +22,7 @@ ghost use lib.Dec.{eqb, ltb, leb};
 ghost use lib.ListN.{length};
 ghost use Rattle.schedule.specs.Schedule.{keyNumber};
 ghost use Rattle.lookups.specs.Tables.{inverseWords};
-ghost use Rattle.modes.specs.Modes.{over};
+ghost use Rattle.octets.specs.Octets.{over};
 ghost use Rattle.image.specs.Turn.{ran, cut};
 ghost use Rattle.image.specs.Calls as spec;
 

@@ -15,7 +15,7 @@ ghost use mathlib.Core.Path.{_≡_};
 ghost use Prim.Native.Nat.{_+_, _*_, _≤_, _<_};
 ghost use lib.ListN.{length};
 ghost use Rattle.header.specs.declared.Verdict.the-variants.{Accepted};
-ghost use Rattle.modes.specs.Modes.{over};
+ghost use Rattle.octets.specs.Octets.{over};
 ghost use Rattle.image.specs.Sealed as sealed;
 ghost use Rattle.image.specs.Judge.{judge, taken};
 ghost use Rattle.image.specs.Turn as spec;

@@ -1,4 +1,1 @@
-pub mod HexLaws
-pub mod NumberLaws
-pub mod PlaceLaws
 pub mod WordLaws

@@ -1,4 +1,1 @@
-pub mod Hex
-pub mod Numbers
-pub mod Places
 pub mod Words

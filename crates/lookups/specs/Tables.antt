@@ -5,9 +5,8 @@ use mathlib.Core.Bool.{_||_}
 use mathlib.Core.List.{List}
 use lib.Dec.{eqb, ltb}
 use lib.ListN.{getD, replicate}
-use Rattle.octets.specs.Octets.{xor, choose, tabulate}
+use Rattle.octets.specs.Octets.{xor, choose, tabulate, entry}
 use Rattle.octets.specs.Blocks.{BlockCipher}
-use Rattle.sbox.specs.Sbox.{entry}
 use Rattle.words.specs.Columns.{diagonal, mixColumn, invMixColumn, spun, middle}
 use Rattle.lookups.specs.declared.Columns.{Columns}
 use Rattle.lookups.specs.Columns.{columns, blockOf, columnsOf}

@@ -7,9 +7,8 @@ use native.Mathlib.Omega.{arith}
 use borrow.Author.Tests.{eqb-true, ltb-false}
 use lib.Dec.{eqb, ltb}
 use Rattle.octets.specs.Octets.{choose}
-use Rattle.modes.specs.Modes.{ruled, modeNumber, modeOutput}
-use Rattle.modes.specs.declared.Mode.{Mode}
-use Rattle.modes.specs.declared.Way.{Way}
+use Rattle.modes.specs.Calls.{ruled, modeNumber, modeOutput}
+use Rattle.sp800_38a.specs.declared.Operation.{Operation}
 use Rattle.modes.specs.declared.ModeAnswer.{ModeAnswer}
 use Rattle.modes.specs.declared.ModeAnswer.the-variants.{Done, BadKey, BadIv, NotPieces, OutputShort}
 
@@ -32,9 +31,9 @@ met key wanted iv inp out h =
     let t = chosen (eqb key 0) (eqb iv wanted) (eqb (inp % 16) 0) (ltb out inp) h in
     record { key-taken = eqb-true _ _ (t .0); iv-right = eqb-true _ _ (t .1); pieces = eqb-true _ _ (t .2); room = ltb-false _ _ (t .3) }
 
-pub kept : (a : ModeAnswer) (m : Mode) (w : Way) (key iv inp out : List ℕ) → (modeNumber a ≡ 0 → ⊥) → modeOutput a m w key iv inp out ≡ out
-kept Done m w key iv inp out h = absurd (h refl)
-kept BadKey m w key iv inp out h = refl
-kept BadIv m w key iv inp out h = refl
-kept NotPieces m w key iv inp out h = refl
-kept OutputShort m w key iv inp out h = refl
+pub kept : (a : ModeAnswer) (o : Operation) (key iv inp out : List ℕ) → (modeNumber a ≡ 0 → ⊥) → modeOutput a o key iv inp out ≡ out
+kept Done o key iv inp out h = absurd (h refl)
+kept BadKey o key iv inp out h = refl
+kept BadIv o key iv inp out h = refl
+kept NotPieces o key iv inp out h = refl
+kept OutputShort o key iv inp out h = refl

@@ -1,5 +1,5 @@
 -- From what the parts of a call give to what the call is to give. Assumes nothing.
-use mathlib.Core.Path.{_≡_, refl, sym, _∙_}
+use mathlib.Core.Path.{_≡_, refl, sym, ap, _∙_}
 use mathlib.Core.List.{List, [], _∷_}
 use Prim.Native.Nat.{ℕ}
 use types.Run.{OneOf, miss}
@@ -15,38 +15,41 @@ use Rattle.lookups.specs.Tables.{tableCipher, inverseWords}
 use Rattle.tables.specs.Tables.{forwardTable, inverseTable}
 use Rattle.lookups.proofs.Lawful.{lent-agrees}
 use Rattle.fips197.proofs.Aes.{key-lawful}
-use Rattle.modes.specs.Modes.{ivLength, ruled, modeAnswer, modeOutput, through}
-use Rattle.modes.specs.declared.Mode.{Mode}
-use Rattle.modes.specs.declared.Way.{Way}
+use Rattle.modes.specs.Calls.{ruled, modeAnswer, modeOutput}
+use Rattle.sp800_38a.specs.Pieces.{pieceCount}
+use Rattle.sp800_38a.specs.Modes.{ivLength}
+use Rattle.pieces.specs.Runs.{through}
+use Rattle.pieces.proofs.Agree.{through-mode, iv-chain, iv-same}
+use Rattle.sp800_38a.specs.declared.Operation.{Operation}
 use Rattle.modes.specs.declared.ModeAnswer.{ModeAnswer}
 use Rattle.modes.specs.declared.ModeAnswer.the-variants.{Done, BadKey, BadIv, NotPieces, OutputShort}
 use Rattle.modes.proofs.ModeAnswer.{the-type}
 use Rattle.modes.proofs.Answers.{met}
-use Rattle.modes.proofs.Agree.{through-mode}
 
 -- an answer that is not the first case leaves the output as it was
-pub refused-keeps : (a : ModeAnswer) (m : Mode) (w : Way) (key iv inp out : List ℕ)
-    → OneOf (1 ∷ 2 ∷ 3 ∷ 4 ∷ []) (tagOf the-type a) → modeOutput a m w key iv inp out ≡ out
-refused-keeps Done m w key iv inp out h = absurd (miss (1 ∷ 2 ∷ 3 ∷ 4 ∷ []) 0 tt h)
-refused-keeps BadKey m w key iv inp out h = refl
-refused-keeps BadIv m w key iv inp out h = refl
-refused-keeps NotPieces m w key iv inp out h = refl
-refused-keeps OutputShort m w key iv inp out h = refl
+pub refused-keeps : (a : ModeAnswer) (o : Operation) (key iv inp out : List ℕ)
+    → OneOf (1 ∷ 2 ∷ 3 ∷ 4 ∷ []) (tagOf the-type a) → modeOutput a o key iv inp out ≡ out
+refused-keeps Done o key iv inp out h = absurd (miss (1 ∷ 2 ∷ 3 ∷ 4 ∷ []) 0 tt h)
+refused-keeps BadKey o key iv inp out h = refl
+refused-keeps BadIv o key iv inp out h = refl
+refused-keeps NotPieces o key iv inp out h = refl
+refused-keeps OutputShort o key iv inp out h = refl
 
 -- e is the schedule that the call makes, r the answer
-module _ (m : Mode) (key iv inp out : List ℕ) (e : Expanded) (r : ModeAnswer) (pe : e ≡ scheduleOf sBox key)
-    (pr : r ≡ ruled (keyNumber (e .answer)) (ivLength m) (length iv) (length inp) (length out)) where
-  pub answered : r ≡ modeAnswer m key iv inp out
+module _ (o : Operation) (key iv inp out : List ℕ) (e : Expanded) (r : ModeAnswer) (pe : e ≡ scheduleOf sBox key)
+    (pr : r ≡ ruled (keyNumber (e .answer)) (ivLength 16 o) (length iv) (length inp) (length out)) where
+  pub answered : r ≡ modeAnswer o key iv inp out
   unfolding modeAnswer
   answered = pr ∙ rw pe
 
-  pub written : (w : Way) (b o : List ℕ) → b ≡ blockAt iv 0 → Bytes iv → Bytes inp → r ≡ Done
-      → o ≡ through (tableCipher forwardTable inverseTable (e .schedule .words) (inverseWords (e .schedule .words) (e .schedule .rounds)) (e .schedule .rounds)) m w b inp out
-      → o ≡ modeOutput r m w key iv inp out
+  pub written : (b st x : List ℕ) → b ≡ blockAt iv 0 → Bytes iv → Bytes inp → r ≡ Done
+      → (st, x) ≡ through (tableCipher forwardTable inverseTable (e .schedule .words) (inverseWords (e .schedule .words) (e .schedule .rounds)) (e .schedule .rounds)) o b inp out
+      → x ≡ modeOutput r o key iv inp out
   unfolding modeAnswer
-  written w b o pb bi bs d po =
-      let f = met (keyNumber (scheduleOf sBox key .answer)) (ivLength m) (length iv) (length inp) (length out) (sym answered ∙ d) in
+  written b st x pb bi bs d po =
+      let f = met (keyNumber (scheduleOf sBox key .answer)) (ivLength 16 o) (length iv) (length inp) (length out) (sym answered ∙ d) in
       let k = scheduleOf sBox key .schedule in
-      po ∙ rw (d, pb, pe)
-      (through-mode (tableCipher forwardTable inverseTable (k .words) (inverseWords (k .words) (k .rounds)) (k .rounds)) (aesOf key)
-      (lent-agrees (k .words) (k .rounds)) (key-lawful key (f .key-taken)) m w iv inp out (f .iv-right) bi bs (f .pieces) (f .room))
+      let c = tableCipher forwardTable inverseTable (k .words) (inverseWords (k .words) (k .rounds)) (k .rounds) in
+      let p : (st, x) ≡ through c o (blockAt iv 0) inp out = po ∙ rw (pb, pe) in
+      let q = through-mode c (aesOf key) (lent-agrees (k .words) (k .rounds)) (key-lawful key (f .key-taken)) o (blockAt iv 0) inp (iv-chain o iv (f .iv-right) bi) bs (f .pieces) out (f .room) in
+      ap (λ (t : List ℕ × List ℕ). t .1) (p ∙ q) ∙ rw (d, iv-same (aesOf key) iv (pieceCount 16 inp) inp o (f .iv-right))

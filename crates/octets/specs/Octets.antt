@@ -1,10 +1,11 @@
 -- Bytes and lists of bytes. A byte is a number below 256. Assumes nothing: these are definitions.
 use Prim.Native.Nat.{ℕ, zero, suc, _-_, _<_}
-use mathlib.Core.Bool.{Bool, true, false}
+use mathlib.Core.Bool.{Bool, true, false, _&&_}
 use mathlib.Core.Path.{_≡_}
 use mathlib.Core.List.{List, [], _∷_, _++_}
 use lib.Bits.{bitXor}
-use lib.ListN.{length, getD, replicate}
+use lib.Dec.{eqb}
+use lib.ListN.{length, getD, drop, replicate}
 
 -- the first where the test holds, else the second
 abbrev pub choose : {A : Type 0} → Bool → A → A → A
@@ -23,6 +24,26 @@ tabulate (suc n) f = f 0 ∷ tabulate n (λ k. f (suc k))
 -- s followed by zeros, up to n elements
 unfoldable pub padTo : ℕ → List ℕ → List ℕ
 padTo n s = s ++ replicate (n - length s) 0
+
+-- what a table has in the place of a byte
+abbrev pub entry : List ℕ → ℕ → ℕ
+entry table x = getD table x 0
+
+-- a list in the place of the first elements of another
+abbrev pub over : List ℕ → List ℕ → List ℕ
+over s out = s ++ drop (length s) out
+
+-- two lists are the same, element by element
+abbrev pub same : List ℕ → List ℕ → Bool
+same [] [] = true
+same [] (y ∷ b) = false
+same (x ∷ a) [] = false
+same (x ∷ a) (y ∷ b) = eqb x y && same a b
+
+-- lists one after the other
+abbrev pub joined : List (List ℕ) → List ℕ
+joined [] = []
+joined (part ∷ parts) = part ++ joined parts
 
 -- every element is a byte
 abbrev pub Bytes : List ℕ → Type 0

@@ -5,7 +5,7 @@ use mathlib.Core.List.{List, [], _∷_, _++_}
 use Prim.Native.Nat.{ℕ}
 use denote.Ref.{now}
 use lib.ListN.{length, replicate}
-use Rattle.octets.specs.Octets.{Bytes, padTo}
+use Rattle.octets.specs.Octets.{joined, Bytes, padTo}
 use Rattle.octets.specs.Blocks.{BlockCipher}
 use Rattle.sbox.specs.Sbox.{sBox, invSBox}
 use Rattle.schedule.specs.Schedule.{taken, refused, scheduleOf, keyNumber}
@@ -14,25 +14,30 @@ use Rattle.tables.specs.Tables.{forwardTable}
 use Rattle.fips197.specs.State.{aes}
 use Rattle.schedule.specs.Schedule.{roundCount}
 use Rattle.fips197.specs.Cipher.{cipher, invCipher, encryptBlock, decryptBlock, aesOf}
+use Rattle.lookups.specs.Tables.{oneTable}
 use Rattle.fips197.proofs.Padding.{cipher-padded, inv-cipher-padded}
 use Rattle.fips197.proofs.Aes.{key-lawful}
-use Rattle.cmac.specs.Cmac.{cmac, SameOutside}
-use Rattle.cmac.specs.Running.{lent, standard, begun, checkedBy, checkOf, startedBy, startOf, fedWith, closeOf, fedParts, joined}
+use Rattle.sp800_38b.specs.Cmac.{cmac, SameOutside}
+use Rattle.running.specs.Running.{begun}
+use Rattle.fips197.specs.Cipher.{standard}
+use Rattle.cmac.specs.Calls.{checkedBy, checkOf, startedBy, startOf, fedWith, closeOf, fedParts}
 use Rattle.cmac.specs.declared.Record.{Record}
 use Rattle.cmac.specs.declared.Checked.{Checked}
 use Rattle.cmac.specs.declared.Started.{Started}
-use Rattle.cmac.proofs.OnePiece.{one-piece}
+use Rattle.sp800_38b.proofs.OnePiece.{one-piece}
 use Rattle.cmac.proofs.Under.{cmac-table}
 use Rattle.cmac.proofs.Parts.{running-whole, close-zeros, cmac-zeros, lent-zeros}
 use Rattle.promises.proofs.Cipher.{KeySize, NoKeySize, sized, unsized, known-rounds, expanded}
+use Rattle.subkeys.proofs.filled.Reads as filled
+use Rattle.subkeys.proofs.last.Reads as last
 use Rattle.cmac.proofs.check.Reads as check
 use Rattle.cmac.proofs.start.Reads as start
 use Rattle.cmac.proofs.fed_with.Reads as fed-with
 use Rattle.cmac.proofs.close.Reads as close
 use Rattle.cmac.proofs.check_with.Reads as check-with
-use Rattle.cmac.proofs.Run.new.Reads as run-new
-use Rattle.cmac.proofs.Run.fed.Reads as run-fed
-use Rattle.cmac.proofs.Run.closed.Reads as run-closed
+use Rattle.running.proofs.Run.new.Reads as run-new
+use Rattle.running.proofs.Run.fed.Reads as run-fed
+use Rattle.running.proofs.Run.closed.Reads as run-closed
 
 -- ---- demand 1: every call asks nothing of its caller, and any two outcomes that its contract allows agree
 
@@ -83,6 +88,18 @@ run-closed-asks-nothing κs a = tt
 
 pub run-closed-determined : (κs : _) (a : _) (r r′ : _) (s s′ : _) → run-closed.Post κs a r s → run-closed.Post κs a r′ s′ → r ≡ r′
 run-closed-determined κs a r r′ s s′ p q = p ∙ sym q
+
+pub filled-asks-nothing : (κs : _) (a : _) → filled.Asked κs a
+filled-asks-nothing κs a = tt
+
+pub filled-determined : (κs : _) (a : _) (r r′ : _) (s s′ : _) → filled.Post κs a r s → filled.Post κs a r′ s′ → r ≡ r′
+filled-determined κs a r r′ s s′ p q = p ∙ sym q
+
+pub last-asks-nothing : (κs : _) (a : _) → last.Asked κs a
+last-asks-nothing κs a = tt
+
+pub last-determined : (κs : _) (a : _) (r r′ : _) (s s′ : _) → last.Post κs a r s → last.Post κs a r′ s′ → r ≡ r′
+last-determined κs a r r′ s s′ p q = p ∙ sym q
 
 -- exception: cmac::cmac_feed: it is lent the record by `&mut`, for which no `Reads` is made; its contract is the one equation that the record at exit is `fedWith` of the record at entry and of the part, so two outcomes agree as those of `fed_with` do
 
@@ -149,7 +166,7 @@ check-with-of-no-key κs a r s p e = p ∙ lent-zeros (now (a .0)) (now (a .1 .0
 pub check-with-is-cmac : (κs : _) (a : _) (r : _) (s : _) → check-with.Post κs a r s → now (a .0) ≡ forwardTable → Bytes (now (a .1 .1 .1 .0))
     → r ≡ cmac (standard (now (a .1 .0)) (a .1 .1 .0)) (now (a .1 .1 .1 .0))
 check-with-is-cmac κs a r s p e b =
-    p ∙ ap (λ (t : List ℕ). cmac (lent t (now (a .1 .0)) (a .1 .1 .0)) (now (a .1 .1 .1 .0))) e ∙ cmac-table (now (a .1 .0)) (a .1 .1 .0) (now (a .1 .1 .1 .0)) b
+    p ∙ ap (λ (t : List ℕ). cmac (oneTable t (now (a .1 .0)) (a .1 .1 .0)) (now (a .1 .1 .1 .0))) e ∙ cmac-table (now (a .1 .0)) (a .1 .1 .0) (now (a .1 .1 .1 .0)) b
 
 -- the running check is the whole one, for any parts that the message is cut into, none and empty ones too
 pub running-is-whole : (key : List ℕ) (parts : List (List ℕ)) → closeOf (fedParts (startOf key .«record») parts) ≡ checkOf key (joined parts) .check

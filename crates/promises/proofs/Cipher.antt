@@ -9,12 +9,11 @@ use borrow.Author.Tests.{eq-eqb, ne-eqb}
 use lib.ListN.{length, replicate}
 use Rattle.octets.specs.Octets.{Octets, padTo}
 use Rattle.sbox.specs.Sbox.{sBox, invSBox}
-use Rattle.schedule.specs.Schedule.{keyExpansion, taken, refused, scheduleOf, keyNumber}
+use Rattle.schedule.specs.Schedule.{keyExpansion, taken, refused, scheduleOf, keyNumber, roundCount}
 use Rattle.schedule.specs.declared.Expanded.{Expanded}
 use Rattle.schedule.specs.declared.KeyAnswer.the-variants.{Taken, KeyLength}
 use Rattle.fips197.specs.State.{aes}
 use Rattle.fips197.specs.Cipher.{cipher, invCipher, encryptBlock, decryptBlock}
-use Rattle.schedule.specs.Schedule.{roundCount}
 use Rattle.cipher.specs.Calls.{encryptUnder, decryptUnder}
 use Rattle.cipher.specs.declared.Ciphered.{Ciphered}
 use Rattle.fips197.proofs.State.{aes-regular}

@@ -11,7 +11,7 @@ use Rattle.sbox.specs.Sbox.{square, powerWithin, inverse, bit, fromBits, affine
 use Rattle.words.specs.Columns.{rotWord, diagonal, row}
 use Rattle.schedule.specs.Schedule.{rCon, keyWord, temp, nextWord}
 use Rattle.fips197.specs.State.{aes, at, state, shiftRows, mixColumns, invMixColumns}
-use Rattle.cmac.specs.Cmac.{shifted, doubled}
+use Rattle.sp800_38b.specs.Cmac.{shifted, doubled}
 
 -- what a definition gives, and what the document has
 pub record Case : Type 0 where

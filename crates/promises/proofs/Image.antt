@@ -9,16 +9,15 @@ use native.Mathlib.Omega.{arith}
 use lib.Dec.{eqb}
 use lib.ListN.{length, getD, take, drop, length-append, length-drop}
 use lib.Seq.{take-at, drop-at}
-use Rattle.octets.specs.Octets.{choose, Bytes, Octets}
+use Rattle.octets.specs.Octets.{choose, Bytes, Octets, over}
 use Rattle.octets.specs.Blocks.{BlockCipher, Lawful}
 use Rattle.octets.proofs.Blocks.{take-bytes, drop-bytes}
 use Rattle.schedule.specs.Schedule.{keyNumber}
 use Rattle.fips197.specs.Cipher.{aesOf}
 use Rattle.fips197.proofs.Aes.{key-lawful}
-use Rattle.modes.specs.Modes.{over}
-use Rattle.modes.specs.Pieces.{piece}
-use Rattle.cmac.specs.Cmac.{SameOutside}
-use Rattle.cmac.specs.Running.{joined}
+use Rattle.sp800_38a.specs.Pieces.{piece}
+use Rattle.sp800_38b.specs.Cmac.{SameOutside}
+use Rattle.octets.specs.Octets.{joined}
 use Rattle.header.specs.Layout.{headOf}
 use Rattle.header.specs.Rules.{done, reasonNumber}
 use Rattle.header.specs.declared.Head.{Head}

@@ -9,17 +9,15 @@ use borrow.Author.Tests.{eqb-true, eqb-false, eq-eqb, ltb-true, ltb-false, lt-lt
 use lib.Dec.{eqb, ltb, leb}
 use lib.ListN.{length, take, drop, length-drop}
 use lib.Seq.{take-at, drop-at, take-all}
-use Rattle.octets.specs.Octets.{choose, Bytes}
+use Rattle.octets.specs.Octets.{choose, Bytes, over}
 use Rattle.octets.specs.Blocks.{Lawful}
 use Rattle.octets.proofs.Blocks.{take-octets, drop-bytes}
 use Rattle.sbox.specs.Sbox.{sBox}
-use Rattle.schedule.specs.Schedule.{scheduleOf, keyNumber}
+use Rattle.schedule.specs.Schedule.{scheduleOf, keyNumber, roundCount}
 use Rattle.schedule.specs.Schedule as schedule
 use Rattle.schedule.specs.declared.Expanded.{Expanded}
-use Rattle.schedule.specs.Schedule.{roundCount}
 use Rattle.fips197.specs.Cipher.{aesOf}
 use Rattle.fips197.proofs.Aes.{aes-lawful, key-lawful}
-use Rattle.modes.specs.Modes.{over}
 use Rattle.header.specs.Layout.{headOf}
 use Rattle.header.specs.Rules.{countFits, lengthFits}
 use Rattle.header.specs.declared.Reason.{Reason}

@@ -6,9 +6,8 @@ use Prim.Native.Nat.{ℕ, _≤_, _<_}
 use denote.Ref.{now}
 use native.Mathlib.Omega.{arith}
 use lib.ListN.{length, take}
-use Rattle.octets.specs.Octets.{Bytes, Octets, choose}
-use Rattle.cmac.specs.Cmac.{SameOutside}
-use Rattle.modes.specs.Modes.{over}
+use Rattle.octets.specs.Octets.{Bytes, Octets, choose, over}
+use Rattle.sp800_38b.specs.Cmac.{SameOutside}
 use Rattle.header.specs.Rules.{done}
 use Rattle.header.specs.declared.Progress.{Progress}
 use Rattle.header.specs.declared.Reason.the-variants.{AfterLast, CheckWrong}

@@ -11,11 +11,10 @@ use lib.Seq.{length-take-le, take-add}
 use Rattle.octets.specs.Octets.{choose, Bytes, Octets}
 use Rattle.octets.specs.Blocks.{BlockCipher, Lawful}
 use Rattle.octets.proofs.Blocks.{take-bytes, drop-bytes, take-octets}
-use Rattle.modes.specs.Modes.{moded}
-use Rattle.modes.specs.declared.Mode.the-variants.{Cbc}
-use Rattle.modes.specs.declared.Way.the-variants.{Encrypt, Decrypt}
-use Rattle.modes.proofs.Undo.{moded-length, moded-undone}
-use Rattle.cmac.specs.Cmac.{cmac, SameOutside}
+use Rattle.sp800_38a.specs.Modes.{moded}
+use Rattle.sp800_38a.specs.declared.Operation.the-variants.{CbcEncrypt, CbcDecrypt}
+use Rattle.sp800_38a.proofs.Sixteen.{length-16, undone-16, bytes-16}
+use Rattle.sp800_38b.specs.Cmac.{cmac, SameOutside}
 use Rattle.header.specs.Layout.{headOf}
 use Rattle.header.specs.Rules.{firstOf, done, countFits, lengthFits, headTests}
 use Rattle.header.specs.declared.Head.{Head}
@@ -28,7 +27,7 @@ use Rattle.header.proofs.Laws.{Wide, head-bytes}
 use Rattle.image.specs.Sealed.{filled, front, sealed, opened, checks, fillZero}
 use Rattle.image.specs.Judge.{Keys, tests, judge}
 use Rattle.promises.proofs.ImageTerms.{Right, Met, Says, unchecked, payload}
-use Rattle.promises.proofs.ImageSealed.{same-true, moded-bytes, fill-of, sealed-size, sealed-bytes, sealed-checks, sealed-head, sealed-fill, same-block}
+use Rattle.promises.proofs.ImageSealed.{same-true, fill-of, sealed-size, sealed-bytes, sealed-checks, sealed-head, sealed-fill, same-block}
 
 -- ---- tests in order
 
@@ -288,15 +287,15 @@ module _ (ek : BlockCipher) (le : Lawful 16 ek) (b : List ℕ) (lb : length b �
 
   pub opened-length : length (opened ek b) ≡ 480
   unfolding opened cipher
-  opened-length = moded-length ek le Cbc Decrypt (ek .enc (take 16 b)) cipher iv-octets (cipher-octets .bytes) whole-pieces ∙ cipher-octets .size
+  opened-length = length-16 ek le CbcDecrypt (ek .enc (take 16 b)) cipher iv-octets (cipher-octets .bytes) whole-pieces ∙ cipher-octets .size
 
   opened-bytes : Bytes (opened ek b)
   unfolding opened cipher
-  opened-bytes = moded-bytes ek le Cbc Decrypt (ek .enc (take 16 b)) cipher iv-octets (cipher-octets .bytes) whole-pieces
+  opened-bytes = bytes-16 ek le CbcDecrypt (ek .enc (take 16 b)) cipher iv-octets (cipher-octets .bytes) whole-pieces
 
-  enciphered : moded ek Cbc Encrypt (ek .enc (take 16 b)) (opened ek b) ≡ cipher
+  enciphered : moded 16 ek CbcEncrypt (ek .enc (take 16 b)) (opened ek b) ≡ cipher
   unfolding opened cipher
-  enciphered = moded-undone ek le Cbc Decrypt (ek .enc (take 16 b)) cipher iv-octets (cipher-octets .bytes) whole-pieces
+  enciphered = undone-16 ek le CbcDecrypt (ek .enc (take 16 b)) cipher iv-octets (cipher-octets .bytes) whole-pieces
 
 -- what an accepted block opens to is its payload and zero fill, and the block is the sealing of its header and payload
 module _ (k : Keys) (le : Lawful 16 (k .enc)) (s : Progress) (b : List ℕ) (lb : length b ≡ 512) (bb : Bytes b) (m : Met k s b) where
@@ -317,7 +316,7 @@ module _ (k : Keys) (le : Lawful 16 (k .enc)) (s : Progress) (b : List ℕ) (lb 
   unfolding front cipher
   front-is =
       let eh = head-bytes b bb (omega arith) in
-      ap₂ _++_ eh (ap₂ (λ (x y : List ℕ). moded (k .enc) Cbc Encrypt ((k .enc) .enc x) y) eh payload-filled ∙ enciphered (k .enc) le b lb bb)
+      ap₂ _++_ eh (ap₂ (λ (x y : List ℕ). moded 16 (k .enc) CbcEncrypt ((k .enc) .enc x) y) eh payload-filled ∙ enciphered (k .enc) le b lb bb)
       ∙ sym (take-add 16 480 b)
 
   pub accepted-sealed : b ≡ sealed (k .enc) (k .chk) [] (headOf b) (payload (k .enc) b)

@@ -5,12 +5,11 @@ use mathlib.Core.List.{List, [], _∷_, _++_, append-assoc}
 use Prim.Native.Nat.{ℕ, _+_, _≤_}
 use native.Mathlib.Omega.{arith}
 use lib.ListN.{length, take, drop, length-append}
-use Rattle.octets.specs.Octets.{Bytes, Octets}
+use Rattle.octets.specs.Octets.{Bytes, Octets, over}
 use Rattle.octets.specs.Blocks.{BlockCipher, Lawful}
 use Rattle.fips197.specs.Cipher.{aesOf}
 use Rattle.fips197.proofs.Aes.{key-lawful}
-use Rattle.modes.specs.Modes.{over}
-use Rattle.cmac.specs.Cmac.{SameOutside}
+use Rattle.sp800_38b.specs.Cmac.{SameOutside}
 use Rattle.header.specs.Layout.{headOf}
 use Rattle.header.specs.Rules.{done}
 use Rattle.header.specs.declared.Head.{Head}

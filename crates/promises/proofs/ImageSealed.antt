@@ -3,27 +3,22 @@ use mathlib.Core.Path.{_≡_, refl, sym, ap, ap₂, _∙_}
 use mathlib.Core.Bool.{Bool, true, false, _&&_}
 use mathlib.Core.Logic.{⊎-elim}
 use mathlib.Core.List.{List, [], _∷_, _++_, append-assoc}
-use Prim.Native.Nat.{ℕ, zero, suc, _+_, _-_, _/_, _%_, _≤_, _<_}
+use Prim.Native.Nat.{ℕ, zero, suc, _+_, _-_, _%_, _≤_, _<_}
 use native.Mathlib.Omega.{arith}
 use borrow.Author.Tests.{eqb-true, eq-eqb}
 use lib.Dec.{eqb}
 use lib.ListN.{length, getD, take, drop, replicate, length-take, length-drop, length-append, take-append-drop, List·getD-append}
 use lib.Seq.{take-at, drop-at, length-take-le, ext-getD, getD-take, getD-drop, getD-append-add}
-use Rattle.octets.specs.Octets.{padTo, Bytes, Octets}
+use Rattle.octets.specs.Octets.{padTo, Bytes, Octets, same}
 use Rattle.octets.specs.Blocks.{BlockCipher, Lawful}
 use Rattle.octets.proofs.Xor.{lt-or-le}
 use Rattle.octets.proofs.Fill.{getD-padTo, length-padTo}
 use Rattle.octets.proofs.Blocks.{take-bytes, append-bytes}
-use Rattle.blocks.specs.Blocks.{same}
-use Rattle.modes.specs.Modes.{machine, moded}
-use Rattle.modes.specs.declared.Mode.{Mode}
-use Rattle.modes.specs.declared.Mode.the-variants.{Cbc}
-use Rattle.modes.specs.declared.Way.{Way}
-use Rattle.modes.specs.declared.Way.the-variants.{Encrypt, Decrypt}
-use Rattle.modes.proofs.Pieces.{made-bytes}
-use Rattle.modes.proofs.Undo.{ChainOf, keeps, whole, moded-length, moded-undone}
-use Rattle.cmac.specs.Cmac.{cmac, SameOutside}
-use Rattle.cmac.proofs.OnePiece.{cmac-octets, one-piece}
+use Rattle.sp800_38a.specs.Modes.{moded}
+use Rattle.sp800_38a.specs.declared.Operation.the-variants.{CbcEncrypt, CbcDecrypt}
+use Rattle.sp800_38a.proofs.Sixteen.{length-16, undone-16, bytes-16}
+use Rattle.sp800_38b.specs.Cmac.{cmac, SameOutside}
+use Rattle.sp800_38b.proofs.OnePiece.{cmac-octets, one-piece}
 use Rattle.header.specs.Layout.{headOf, headBytes}
 use Rattle.header.specs.declared.Head.{Head}
 use Rattle.header.proofs.Laws.{Wide, head-of, head-octets}
@@ -59,11 +54,6 @@ zero-all (x ∷ s) e = go (eqb x 0) refl e (zero-all s)
     go : (t : Bool) → eqb x 0 ≡ t → (t && allZero s) ≡ true → (allZero s ≡ true → s ≡ replicate (length s) 0) → x ∷ s ≡ replicate (length (x ∷ s)) 0
     go true f g r = ap₂ _∷_ (eqb-true x 0 f) (r g)
     go false f g r = let z : _≡_ {A = ℕ} 0 1 = cc in absurd (omega arith)
-
--- a mode gives bytes
-pub moded-bytes : (c : BlockCipher) (l : Lawful 16 c) (m : Mode) (w : Way) (iv s : List ℕ) → ChainOf m iv → Bytes s → length s % 16 ≡ 0 → Bytes (moded c m w iv s)
-moded-bytes c l m w iv s g b h =
-    made-bytes 16 (machine c m w) (ChainOf m) (Octets 16) (keeps c l m w) ((length s + 15) / 16) iv s g (whole c l m w iv s g b h)
 
 -- ---- payload and fill
 
@@ -102,11 +92,11 @@ module _ (ek ck : BlockCipher) (le : Lawful 16 ek) (lc : Lawful 16 ck) (h : Head
   whole-pieces = omega (arith, filled-length p lp)
 
   body : List ℕ
-  body = moded ek Cbc Encrypt iv (filled p)
+  body = moded 16 ek CbcEncrypt iv (filled p)
 
   body-length : length body ≡ 480
   unfolding body
-  body-length = moded-length ek le Cbc Encrypt iv (filled p) iv-octets (filled-bytes p bp) whole-pieces ∙ filled-length p lp
+  body-length = length-16 ek le CbcEncrypt iv (filled p) iv-octets (filled-bytes p bp) whole-pieces ∙ filled-length p lp
 
   front-size : length (front ek h p) ≡ 496
   unfolding front body iv
@@ -114,7 +104,7 @@ module _ (ek ck : BlockCipher) (le : Lawful 16 ek) (lc : Lawful 16 ck) (h : Head
 
   front-bytes : Bytes (front ek h p)
   unfolding front body iv
-  front-bytes = append-bytes (headBytes h) body (head-octets h .bytes) (moded-bytes ek le Cbc Encrypt iv (filled p) iv-octets (filled-bytes p bp) whole-pieces)
+  front-bytes = append-bytes (headBytes h) body (head-octets h .bytes) (bytes-16 ek le CbcEncrypt iv (filled p) iv-octets (filled-bytes p bp) whole-pieces)
 
   module _ (tail : List ℕ) (bt : Bytes tail) where
     check-octets : Octets 16 (cmac ck (covered (front ek h p) tail))
@@ -153,14 +143,14 @@ module _ (ek ck : BlockCipher) (le : Lawful 16 ek) (lc : Lawful 16 ck) (h : Head
         let e : z ≡ headBytes h ++ (body ++ c) = append-assoc (headBytes h) body c in
         let t : take 16 z ≡ headBytes h = ap (take 16) e ∙ take-at (headBytes h) (body ++ c) 16 (head-octets h .size) in
         let d : take 480 (drop 16 z) ≡ body = ap (λ (x : List ℕ). take 480 (drop 16 x)) e ∙ ap (take 480) (drop-at (headBytes h) (body ++ c) 16 (head-octets h .size)) ∙ take-at body c 480 body-length in
-        ap₂ (λ (x y : List ℕ). moded ek Cbc Decrypt (ek .enc x) y) t d ∙ moded-undone ek le Cbc Encrypt iv (filled p) iv-octets (filled-bytes p bp) whole-pieces
+        ap₂ (λ (x y : List ℕ). moded 16 ek CbcDecrypt (ek .enc x) y) t d ∙ undone-16 ek le CbcEncrypt iv (filled p) iv-octets (filled-bytes p bp) whole-pieces
 
     -- its header reads back
     pub sealed-head : Wide h → headOf (sealed ek ck tail h p) ≡ h
     unfolding sealed front
     sealed-head w =
-        ap headOf (append-assoc (headBytes h) (moded ek Cbc Encrypt (ek .enc (headBytes h)) (filled p)) (cmac ck (front ek h p ++ tail)))
-        ∙ head-of h (moded ek Cbc Encrypt (ek .enc (headBytes h)) (filled p) ++ cmac ck (front ek h p ++ tail)) w
+        ap headOf (append-assoc (headBytes h) (moded 16 ek CbcEncrypt (ek .enc (headBytes h)) (filled p)) (cmac ck (front ek h p ++ tail)))
+        ∙ head-of h (moded 16 ek CbcEncrypt (ek .enc (headBytes h)) (filled p) ++ cmac ck (front ek h p ++ tail)) w
 
     -- and what follows the payload is zero
     pub sealed-fill : Wide h → length p ≡ h .len → fillZero ek (sealed ek ck tail h p) ≡ true

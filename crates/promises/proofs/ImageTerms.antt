@@ -8,7 +8,7 @@ use Rattle.octets.specs.Octets.{choose, Bytes, Octets}
 use Rattle.octets.specs.Blocks.{BlockCipher}
 use Rattle.sbox.specs.Sbox.{sBox}
 use Rattle.schedule.specs.Schedule.{scheduleOf, keyNumber}
-use Rattle.cmac.specs.Running.{joined}
+use Rattle.octets.specs.Octets.{joined}
 use Rattle.header.specs.Layout.{headOf}
 use Rattle.header.specs.Rules.{done, lengthFits}
 use Rattle.header.specs.declared.Head.{Head}

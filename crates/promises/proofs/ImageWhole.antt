@@ -13,7 +13,7 @@ use lib.Seq.{drop-drop}
 use Rattle.octets.specs.Octets.{choose, Bytes}
 use Rattle.octets.specs.Blocks.{BlockCipher, Lawful}
 use Rattle.octets.proofs.Blocks.{take-bytes, drop-bytes, length-nil}
-use Rattle.modes.specs.Pieces.{piece}
+use Rattle.sp800_38a.specs.Pieces.{piece}
 use Rattle.header.specs.Layout.{headOf}
 use Rattle.header.specs.Rules.{done, lengthFits}
 use Rattle.header.specs.declared.Head.{Head}

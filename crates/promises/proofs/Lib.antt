@@ -1,6 +1,7 @@
 pub mod HandCases
 pub mod Calls
 pub mod Cipher
+pub mod Keys
 pub mod Modes
 pub mod Check
 pub mod Text

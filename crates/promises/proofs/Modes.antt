@@ -1,30 +1,59 @@
 -- Demands 1, 2 and 3 for the modes. Assumes nothing.
-use mathlib.Core.Path.{_≡_, refl, sym, ap, _∙_}
+use mathlib.Core.Path.{_≡_, refl, sym, ap, subst, _∙_}
+use mathlib.Core.Bool.{Bool, true, false}
 use mathlib.Core.List.{List}
-use Prim.Native.Nat.{ℕ, _*_, _%_, _<_}
+use Prim.Native.Nat.{ℕ, _*_, _/_, _%_, _≤_, _<_}
+use native.Mathlib.Nat.{zero-lt-suc}
 use native.Mathlib.Omega.{arith}
+use borrow.Author.Tests.{eqb-true, eqb-false, ltb-true, ltb-false}
 use denote.Ref.{now}
-use lib.ListN.{length, take, drop}
-use lib.Seq.{take-at}
-use Rattle.octets.specs.Octets.{Bytes}
+use lib.Dec.{eqb, ltb}
+use lib.ListN.{length, take, drop, length-append, length-drop}
+use lib.Seq.{take-at, drop-at}
+use Rattle.octets.specs.Octets.{choose, over, Bytes}
 use Rattle.octets.specs.Blocks.{BlockCipher, Lawful}
 use Rattle.sbox.specs.Sbox.{sBox}
-use Rattle.schedule.specs.Schedule.{scheduleOf, keyNumber}
-use Rattle.fips197.specs.Cipher.{aesOf}
-use Rattle.fips197.proofs.Aes.{key-lawful}
-use Rattle.modes.specs.Pieces.{made}
-use Rattle.modes.specs.Modes.{moded, ivLength, modeNumber, modeAnswer, modeOutput, over, common, through}
-use Rattle.modes.specs.Equations.{Equation}
-use Rattle.modes.specs.declared.Mode.{Mode}
-use Rattle.modes.specs.declared.Way.{Way}
+use Rattle.schedule.specs.Schedule.{scheduleOf, keyNumber, roundCount}
+use Rattle.fips197.specs.Cipher.{standard, aesOf}
+use Rattle.fips197.proofs.Aes.{aes-lawful, key-lawful}
+use Rattle.tables.specs.Tables.{forwardTable, inverseTable}
+use Rattle.lookups.specs.Tables.{oneTable, tableCipher, inverseWords}
+use Rattle.lookups.proofs.Lawful.{lent-agrees}
+use Rattle.sp800_38a.specs.Pieces.{made, after, pieceCount}
+use Rattle.sp800_38a.specs.Modes.{machine, other, inverts, ivLength, moded}
+use Rattle.sp800_38a.specs.Equations.{Equation}
+use Rattle.sp800_38a.specs.declared.Operation.{Operation}
+use Rattle.sp800_38a.specs.declared.Operation.the-variants.{EcbEncrypt, EcbDecrypt, CbcEncrypt, CbcDecrypt, CfbEncrypt, CfbDecrypt, OfbEncrypt, OfbDecrypt}
+use Rattle.sp800_38a.proofs.Undo.{ChainOf, moded-undone}
+use Rattle.sp800_38a.proofs.Sixteen.{by-sixteen, length-16, undone-16}
+use Rattle.sp800_38a.proofs.Equations.{equation}
+use Rattle.pieces.specs.Runs.{common, through}
+use Rattle.pieces.proofs.Agree.{iv-is-chain, through-forward, through-backward, through-mode}
+use Rattle.modes.specs.Calls.{modeNumber, ruled, modeAnswer, modeOutput}
 use Rattle.modes.specs.declared.ModeAnswer.{ModeAnswer}
 use Rattle.modes.specs.declared.ModeAnswer.the-variants.{Done, BadKey, BadIv, NotPieces, OutputShort}
-use Rattle.modes.proofs.Answers.{Met, met, kept}
-use Rattle.modes.proofs.Agree.{iv-is-chain}
-use Rattle.modes.proofs.Undo.{ChainOf, other, moded-length, moded-undone}
-use Rattle.modes.proofs.Equations.{equation}
+use Rattle.modes.proofs.Answers.{kept}
+use Rattle.promises.proofs.Keys.{KeyTaken}
 use Rattle.modes.proofs.apply.Reads as apply
-use Rattle.modes.proofs.run.Reads as run
+use Rattle.steps.proofs.step.Reads as step
+use Rattle.pieces.proofs.run.Reads as run
+
+-- ---- the words of this page
+
+-- what a call asks, in the order of the table: 1, 2, 3, 4 come where one of these fails
+pub record Fit (o : Operation) (key iv inp out : List ℕ) : Type 0 where
+  pub key-taken : KeyTaken key
+  pub iv-right : length iv ≡ ivLength 16 o
+  pub pieces : length inp % 16 ≡ 0
+  pub room : length inp ≤ length out
+
+-- what each answer says: that its row of the table holds, and that no earlier one does
+abbrev pub Says : Operation → (key iv inp out : List ℕ) → ModeAnswer → Type 0
+Says o key iv inp out Done = Fit o key iv inp out
+Says o key iv inp out BadKey = KeyTaken key → ⊥
+Says o key iv inp out BadIv = KeyTaken key × (length iv ≡ ivLength 16 o → ⊥)
+Says o key iv inp out NotPieces = KeyTaken key × (length iv ≡ ivLength 16 o) × (length inp % 16 ≡ 0 → ⊥)
+Says o key iv inp out OutputShort = KeyTaken key × (length iv ≡ ivLength 16 o) × (length inp % 16 ≡ 0) × (length out < length inp)
 
 -- ---- demand 1
 
@@ -32,98 +61,193 @@ pub apply-asks-nothing : (κs : _) (a : _) → apply.Asked κs a
 apply-asks-nothing κs a = tt
 
 pub apply-determined : (κs : _) (a : _) (r r′ : _) (s s′ : _) → apply.Post κs a r s → apply.Post κs a r′ s′
-    → (r ≡ r′) × (now (s .1 .1 .1 .1 .1 .0) ≡ now (s′ .1 .1 .1 .1 .1 .0))
+    → (r ≡ r′) × (now (s .1 .1 .1 .1 .0) ≡ now (s′ .1 .1 .1 .1 .0))
 apply-determined κs a r r′ s s′ p q =
     let e : r ≡ r′ = p .0 ∙ sym (q .0) in
     (e, p .1 ∙ rw e (sym (q .1)))
 
 pub apply-refused-keeps : (κs : _) (a : _) (r : _) (s : _) → apply.Post κs a r s → (modeNumber r ≡ 0 → ⊥)
-    → now (s .1 .1 .1 .1 .1 .0) ≡ now (a .1 .1 .1 .1 .1 .0)
-apply-refused-keeps κs a r s p h = p .1 ∙ kept r (a .0) (a .1 .0) (now (a .1 .1 .0)) (now (a .1 .1 .1 .0)) (now (a .1 .1 .1 .1 .0)) (now (a .1 .1 .1 .1 .1 .0)) h
+    → now (s .1 .1 .1 .1 .0) ≡ now (a .1 .1 .1 .1 .0)
+apply-refused-keeps κs a r s p h = p .1 ∙ kept r (a .0) (now (a .1 .0)) (now (a .1 .1 .0)) (now (a .1 .1 .1 .0)) (now (a .1 .1 .1 .1 .0)) h
+
+pub step-asks-nothing : (κs : _) (a : _) → step.Asked κs a
+step-asks-nothing κs a = tt
+
+pub step-determined : (κs : _) (a : _) (r r′ : _) (s s′ : _) → step.Post κs a r s → step.Post κs a r′ s′ → r ≡ r′
+step-determined κs a r r′ s s′ p q = p ∙ sym q
 
 pub run-asks-nothing : (κs : _) (a : _) → run.Asked κs a
 run-asks-nothing κs a = tt
 
 pub run-determined : (κs : _) (a : _) (r r′ : _) (s s′ : _) → run.Post κs a r s → run.Post κs a r′ s′
-    → now (s .1 .1 .1 .1 .1 .1 .1 .0) ≡ now (s′ .1 .1 .1 .1 .1 .1 .1 .0)
-run-determined κs a r r′ s s′ p q = p ∙ sym q
+    → (r ≡ r′) × (now (s .1 .1 .1 .1 .1 .1 .0) ≡ now (s′ .1 .1 .1 .1 .1 .1 .0))
+run-determined κs a r r′ s s′ p q = let e = p ∙ sym q in (ap (λ (x : List ℕ × List ℕ). x .0) e, ap (λ (x : List ℕ × List ℕ). x .1) e)
 
 -- a run refuses nothing; where input and output have no whole piece in common it leaves the output as it was
 pub run-refused-keeps : (κs : _) (a : _) (r : _) (s : _) → run.Post κs a r s
-    → common (length (now (a .1 .1 .1 .1 .1 .1 .0))) (length (now (a .1 .1 .1 .1 .1 .1 .1 .0))) ≡ 0
-    → now (s .1 .1 .1 .1 .1 .1 .1 .0) ≡ now (a .1 .1 .1 .1 .1 .1 .1 .0)
+    → common (length (now (a .1 .1 .1 .1 .1 .0))) (length (now (a .1 .1 .1 .1 .1 .1 .0))) ≡ 0
+    → now (s .1 .1 .1 .1 .1 .1 .0) ≡ now (a .1 .1 .1 .1 .1 .1 .0)
 unfolding through made
-run-refused-keeps κs a r s p e = p ∙ rw e
+run-refused-keeps κs a r s p e = ap (λ (x : List ℕ × List ℕ). x .1) p ∙ rw e
 
--- ---- what a call that is done has met
+-- ---- each answer says what the table says, in its order; and where nothing is refused the call is done
 
-done : (r : ModeAnswer) → modeNumber r ≡ 0 → r ≡ Done
-done Done e = refl
-done BadKey e = absurd (omega arith)
-done BadIv e = absurd (omega arith)
-done NotPieces e = absurd (omega arith)
-done OutputShort e = absurd (omega arith)
+tell : (o : Operation) (key iv inp out : List ℕ) → Says o key iv inp out (modeAnswer o key iv inp out)
+unfolding modeAnswer ruled
+tell o key iv inp out =
+    each (eqb (keyNumber (scheduleOf sBox key .answer)) 0) (eqb (length iv) (ivLength 16 o)) (eqb (length inp % 16) 0) (ltb (length out) (length inp)) refl refl refl refl
+  where
+    each : (p q u v : Bool) → eqb (keyNumber (scheduleOf sBox key .answer)) 0 ≡ p → eqb (length iv) (ivLength 16 o) ≡ q → eqb (length inp % 16) 0 ≡ u → ltb (length out) (length inp) ≡ v
+        → Says o key iv inp out (choose p (choose q (choose u (choose v OutputShort Done) NotPieces) BadIv) BadKey)
+    each true true true true ep eq eu ev = (eqb-true _ _ ep, eqb-true _ _ eq, eqb-true _ _ eu, ltb-true _ _ ev)
+    each true true true false ep eq eu ev = record { key-taken = eqb-true _ _ ep; iv-right = eqb-true _ _ eq; pieces = eqb-true _ _ eu; room = ltb-false _ _ ev }
+    each true true false v ep eq eu ev = (eqb-true _ _ ep, eqb-true _ _ eq, eqb-false _ _ eu)
+    each true false u v ep eq eu ev = (eqb-true _ _ ep, eqb-false _ _ eq)
+    each false q u v ep eq eu ev = eqb-false _ _ ep
 
-module _ (m : Mode) (w : Way) (key iv inp out : List ℕ) (bi : Bytes iv) (bs : Bytes inp) (r : ModeAnswer)
-    (answer : r ≡ modeAnswer m key iv inp out) (z : modeNumber r ≡ 0) where
-  tests : Met (keyNumber (scheduleOf sBox key .answer)) (ivLength m) (length iv) (length inp) (length out)
-  unfolding modeAnswer
-  tests = met _ _ _ _ _ (sym answer ∙ done r z)
+-- an answer that a call which fits gives
+fit-done : (o : Operation) (key iv inp out : List ℕ) → Fit o key iv inp out → (r : ModeAnswer) → Says o key iv inp out r → r ≡ Done
+fit-done o key iv inp out f Done t = refl
+fit-done o key iv inp out f BadKey t = absurd (t (f .key-taken))
+fit-done o key iv inp out f BadIv t = absurd (t .1 (f .iv-right))
+fit-done o key iv inp out f NotPieces t = absurd (t .2 (f .pieces))
+fit-done o key iv inp out f OutputShort t = let h = t .3 in let k = f .room in absurd (omega arith)
 
+pub apply-as-told : (κs : _) (a : _) (r : _) (s : _) → apply.Post κs a r s
+    → Says (a .0) (now (a .1 .0)) (now (a .1 .1 .0)) (now (a .1 .1 .1 .0)) (now (a .1 .1 .1 .1 .0)) r
+apply-as-told κs a r s p =
+    let o = a .0 in
+    let key = now (a .1 .0) in
+    let iv = now (a .1 .1 .0) in
+    let inp = now (a .1 .1 .1 .0) in
+    let out = now (a .1 .1 .1 .1 .0) in
+    subst (Says o key iv inp out) (sym (p .0)) (tell o key iv inp out)
+
+pub apply-done : (κs : _) (a : _) (r : _) (s : _) → apply.Post κs a r s
+    → Fit (a .0) (now (a .1 .0)) (now (a .1 .1 .0)) (now (a .1 .1 .1 .0)) (now (a .1 .1 .1 .1 .0)) → modeNumber r ≡ 0
+apply-done κs a r s p f = ap modeNumber (fit-done _ _ _ _ _ f r (apply-as-told κs a r s p))
+
+-- ---- what a call that fits wrote
+
+module _ (o : Operation) (key iv inp out : List ℕ) (bi : Bytes iv) (bs : Bytes inp) (f : Fit o key iv inp out) where
   lawful : Lawful 16 (aesOf key)
-  lawful = key-lawful key (tests .key-taken)
+  lawful = key-lawful key (f .key-taken)
 
-  chain : ChainOf m iv
-  chain = iv-is-chain m iv (tests .iv-right) bi
+  chain : ChainOf 16 o iv
+  chain = iv-is-chain o iv (f .iv-right) bi
 
-  wrote : modeOutput r m w key iv inp out ≡ over (moded (aesOf key) m w iv inp) out
-  wrote = rw (done r z)
+  long : length (moded 16 (aesOf key) o iv inp) ≡ length inp
+  long = length-16 (aesOf key) lawful o iv inp chain bs (f .pieces)
 
-  long : length (moded (aesOf key) m w iv inp) ≡ length inp
-  long = moded-length (aesOf key) lawful m w iv inp chain bs (tests .pieces)
+  back : moded 16 (aesOf key) (other o) iv (moded 16 (aesOf key) o iv inp) ≡ inp
+  back = undone-16 (aesOf key) lawful o iv inp chain bs (f .pieces)
 
--- ---- demand 2: every piece of the output is as the standard's equation says, for each mode and way
+  wrote : (r : ModeAnswer) → Says o key iv inp out r → modeOutput r o key iv inp out ≡ over (moded 16 (aesOf key) o iv inp) out
+  wrote r t = rw (fit-done o key iv inp out f r t)
 
-pub apply-is-sp-800-38a : (κs : _) (a : _) (r : _) (s : _) → apply.Post κs a r s → modeNumber r ≡ 0
-    → Bytes (now (a .1 .1 .1 .0)) → Bytes (now (a .1 .1 .1 .1 .0)) → (i : ℕ) → i * 16 < length (now (a .1 .1 .1 .1 .0))
-    → Equation (aesOf (now (a .1 .1 .0))) (a .0) (a .1 .0) (now (a .1 .1 .1 .0)) (now (a .1 .1 .1 .1 .0)) (now (s .1 .1 .1 .1 .1 .0)) i
-apply-is-sp-800-38a κs a r s p z bi bs i h =
-    let m = a .0 in
-    let w = a .1 .0 in
-    let key = now (a .1 .1 .0) in
-    let iv = now (a .1 .1 .1 .0) in
-    let inp = now (a .1 .1 .1 .1 .0) in
-    let out = now (a .1 .1 .1 .1 .1 .0) in
-    rw (p .1 ∙ wrote m w key iv inp out bi bs r (p .0) z)
-    (equation (aesOf key) (lawful m w key iv inp out bi bs r (p .0) z) m w iv inp out (chain m w key iv inp out bi bs r (p .0) z) bs (tests m w key iv inp out bi bs r (p .0) z .pieces) i h)
+  rest-kept : (x : List ℕ) → x ≡ over (moded 16 (aesOf key) o iv inp) out → (drop (length inp) x ≡ drop (length inp) out) × (length x ≡ length out)
+  rest-kept x e =
+      let m = moded 16 (aesOf key) o iv inp in
+      let h = f .room in (
+        ap (drop (length inp)) (e ∙ rw long) ∙ drop-at m (drop (length inp) out) (length inp) long,
+        ap length e ∙ length-append m (drop (length m) out) ∙ omega (arith, long, length-drop (length m) out),
+      )
+
+rest-of : (o : Operation) (key iv inp out : List ℕ) → Bytes iv → Bytes inp → (r : ModeAnswer) → Says o key iv inp out r → (x : List ℕ) → x ≡ modeOutput r o key iv inp out
+    → (drop (length inp) x ≡ drop (length inp) out) × (length x ≡ length out)
+rest-of o key iv inp out bi bs Done t x e = rest-kept o key iv inp out bi bs t x e
+rest-of o key iv inp out bi bs BadKey t x e = (ap (drop (length inp)) e, ap length e)
+rest-of o key iv inp out bi bs BadIv t x e = (ap (drop (length inp)) e, ap length e)
+rest-of o key iv inp out bi bs NotPieces t x e = (ap (drop (length inp)) e, ap length e)
+rest-of o key iv inp out bi bs OutputShort t x e = (ap (drop (length inp)) e, ap length e)
+
+-- bytes of the output past the input's length stay, and so does its length, whatever the answer
+pub apply-keeps-the-rest : (κs : _) (a : _) (r : _) (s : _) → apply.Post κs a r s → Bytes (now (a .1 .1 .0)) → Bytes (now (a .1 .1 .1 .0))
+    → (drop (length (now (a .1 .1 .1 .0))) (now (s .1 .1 .1 .1 .0)) ≡ drop (length (now (a .1 .1 .1 .0))) (now (a .1 .1 .1 .1 .0)))
+    × (length (now (s .1 .1 .1 .1 .0)) ≡ length (now (a .1 .1 .1 .1 .0)))
+apply-keeps-the-rest κs a r s p bi bs = rest-of (a .0) (now (a .1 .0)) (now (a .1 .1 .0)) (now (a .1 .1 .1 .0)) (now (a .1 .1 .1 .1 .0)) bi bs r (apply-as-told κs a r s p) _ (p .1)
+
+-- ---- demand 2: every piece of the output is as the standard's equation says, for each operation
+
+pub apply-is-sp-800-38a : (κs : _) (a : _) (r : _) (s : _) → apply.Post κs a r s
+    → Fit (a .0) (now (a .1 .0)) (now (a .1 .1 .0)) (now (a .1 .1 .1 .0)) (now (a .1 .1 .1 .1 .0))
+    → Bytes (now (a .1 .1 .0)) → Bytes (now (a .1 .1 .1 .0)) → (i : ℕ) → i * 16 < length (now (a .1 .1 .1 .0))
+    → Equation 16 (aesOf (now (a .1 .0))) (a .0) (now (a .1 .1 .0)) (now (a .1 .1 .1 .0)) (now (s .1 .1 .1 .1 .0)) i
+apply-is-sp-800-38a κs a r s p f bi bs i h =
+    let o = a .0 in
+    let key = now (a .1 .0) in
+    let iv = now (a .1 .1 .0) in
+    let inp = now (a .1 .1 .1 .0) in
+    let out = now (a .1 .1 .1 .1 .0) in
+    rw (p .1 ∙ wrote o key iv inp out bi bs f r (apply-as-told κs a r s p))
+    (equation 16 (aesOf key) (lawful o key iv inp out bi bs f) (length inp / 16) (zero-lt-suc 15) iv inp out bs (by-sixteen (length inp) (f .pieces)) o (chain o key iv inp out bi bs f) i (omega arith))
+
+-- the table and the schedule that an operation looks up in, for a schedule w of nr rounds
+pub record Lends (o : Operation) (w : List ℕ) (nr : ℕ) (table words : List ℕ) : Type 0 where
+  pub forth : inverts o ≡ false → (table ≡ forwardTable) × (words ≡ w)
+  pub back : inverts o ≡ true → (table ≡ inverseTable) × (words ≡ inverseWords w nr)
+
+lent-through : (o : Operation) (w : List ℕ) (nr : ℕ) (table words : List ℕ) → Lends o w nr table words → (iv inp out : List ℕ)
+    → through (oneTable table words nr) o iv inp out ≡ through (tableCipher forwardTable inverseTable w (inverseWords w nr) nr) o iv inp out
+lent-through o w nr table words l iv inp out = by (inverts o) refl
+  where
+    by : (k : Bool) → inverts o ≡ k → through (oneTable table words nr) o iv inp out ≡ through (tableCipher forwardTable inverseTable w (inverseWords w nr) nr) o iv inp out
+    by true e = rw (l .back e .0, l .back e .1) (through-backward forwardTable inverseTable w (inverseWords w nr) nr o iv inp out e)
+    by false e = rw (l .forth e .0, l .forth e .1) (through-forward forwardTable inverseTable w (inverseWords w nr) nr o iv inp out e)
+
+-- with these lent, a run over whole pieces is the operation under AES; it hands on the chaining value
+pub run-is-the-mode : (κs : _) (a : _) (r : _) (s : _) → run.Post κs a r s → (w : List ℕ) → roundCount (a .1 .1 .0) ≡ true
+    → Lends (a .1 .1 .1 .0) w (a .1 .1 .0) (now (a .0)) (now (a .1 .0)) → ChainOf 16 (a .1 .1 .1 .0) (a .1 .1 .1 .1 .0)
+    → Bytes (now (a .1 .1 .1 .1 .1 .0)) → length (now (a .1 .1 .1 .1 .1 .0)) % 16 ≡ 0 → length (now (a .1 .1 .1 .1 .1 .0)) ≤ length (now (a .1 .1 .1 .1 .1 .1 .0))
+    → (r ≡ after 16 (machine (standard w (a .1 .1 .0)) (a .1 .1 .1 .0)) (a .1 .1 .1 .1 .0) (pieceCount 16 (now (a .1 .1 .1 .1 .1 .0))) (now (a .1 .1 .1 .1 .1 .0)))
+    × (now (s .1 .1 .1 .1 .1 .1 .0) ≡ over (moded 16 (standard w (a .1 .1 .0)) (a .1 .1 .1 .0) (a .1 .1 .1 .1 .0) (now (a .1 .1 .1 .1 .1 .0))) (now (a .1 .1 .1 .1 .1 .1 .0)))
+run-is-the-mode κs a r s p w known l g b h room =
+    let nr = a .1 .1 .0 in
+    let o = a .1 .1 .1 .0 in
+    let iv = a .1 .1 .1 .1 .0 in
+    let inp = now (a .1 .1 .1 .1 .1 .0) in
+    let out = now (a .1 .1 .1 .1 .1 .1 .0) in
+    let c = tableCipher forwardTable inverseTable w (inverseWords w nr) nr in
+    let q : (r, now (s .1 .1 .1 .1 .1 .1 .0)) ≡ through c o iv inp out = p ∙ lent-through o w nr (now (a .0)) (now (a .1 .0)) l iv inp out in
+    let e = q ∙ through-mode c (standard w nr) (lent-agrees w nr) (aes-lawful w nr known) o iv inp g b h out room in
+    (ap (λ (x : List ℕ × List ℕ). x .0) e, ap (λ (x : List ℕ × List ℕ). x .1) e)
 
 -- ---- demand 3: each way of each mode undoes the other, on whole pieces
 
--- for the definitions, over every lawful block cipher
-pub each-way-undoes-the-other : (c : BlockCipher) → Lawful 16 c → (m : Mode) (w : Way) (iv s : List ℕ) → ChainOf m iv → Bytes s → length s % 16 ≡ 0
-    → moded c m (other w) iv (moded c m w iv s) ≡ s
-each-way-undoes-the-other c l m w iv s g b h = moded-undone c l m w iv s g b h
+-- for the definitions, over every lawful block cipher of any width
+pub each-way-undoes-the-other : (z : ℕ) (c : BlockCipher) → Lawful z c → (o : Operation) (n : ℕ) (iv s : List ℕ) → 0 < z → ChainOf z o iv → Bytes s → length s ≡ n * z
+    → moded z c (other o) iv (moded z c o iv s) ≡ s
+each-way-undoes-the-other z c l o n iv s h g b e = moded-undone z c l o n iv s h g b e
 
--- for the calls: the other way, under the same key and IV, over what a call wrote, writes what that call was given
+other-iv : (o : Operation) → ivLength 16 o ≡ ivLength 16 (other o)
+other-iv EcbEncrypt = refl
+other-iv EcbDecrypt = refl
+other-iv CbcEncrypt = refl
+other-iv CbcDecrypt = refl
+other-iv CfbEncrypt = refl
+other-iv CfbDecrypt = refl
+other-iv OfbEncrypt = refl
+other-iv OfbDecrypt = refl
+
+-- for the calls: the other way, under the same key and IV, over what a call that fits wrote, writes what that call was given
 pub apply-undoes-apply : (κs : _) (a : _) (r : _) (s : _) → apply.Post κs a r s → (κs′ : _) (a′ : _) (r′ : _) (s′ : _) → apply.Post κs′ a′ r′ s′
-    → modeNumber r ≡ 0 → modeNumber r′ ≡ 0 → a′ .0 ≡ a .0 → a′ .1 .0 ≡ other (a .1 .0) → now (a′ .1 .1 .0) ≡ now (a .1 .1 .0) → now (a′ .1 .1 .1 .0) ≡ now (a .1 .1 .1 .0)
-    → now (a′ .1 .1 .1 .1 .0) ≡ take (length (now (a .1 .1 .1 .1 .0))) (now (s .1 .1 .1 .1 .1 .0))
-    → Bytes (now (a .1 .1 .1 .0)) → Bytes (now (a .1 .1 .1 .1 .0)) → take (length (now (a .1 .1 .1 .1 .0))) (now (s′ .1 .1 .1 .1 .1 .0)) ≡ now (a .1 .1 .1 .1 .0)
-apply-undoes-apply κs a r s p κs′ a′ r′ s′ q z z′ em ew ek ei es bi bs =
-    let m = a .0 in
-    let w = a .1 .0 in
-    let key = now (a .1 .1 .0) in
-    let iv = now (a .1 .1 .1 .0) in
-    let inp = now (a .1 .1 .1 .1 .0) in
-    let out = now (a .1 .1 .1 .1 .1 .0) in
-    let out′ = now (a′ .1 .1 .1 .1 .1 .0) in
-    let c = aesOf key in
-    let t = tests m w key iv inp out bi bs r (p .0) z in
-    let l = lawful m w key iv inp out bi bs r (p .0) z in
-    let g = chain m w key iv inp out bi bs r (p .0) z in
-    let n = long m w key iv inp out bi bs r (p .0) z in
-    let made-is : now (a′ .1 .1 .1 .1 .0) ≡ moded c m w iv inp =
-    es ∙ ap (take (length inp)) (p .1 ∙ wrote m w key iv inp out bi bs r (p .0) z) ∙ take-at (moded c m w iv inp) (drop (length (moded c m w iv inp)) out) (length inp) n in
-    let back : moded c m (other w) iv (moded c m w iv inp) ≡ inp = moded-undone c l m w iv inp g bs (t .pieces) in
-    let over-is : now (s′ .1 .1 .1 .1 .1 .0) ≡ over inp out′ = q .1 ∙ rw (done r′ z′, em, ew, ek, ei, made-is, back) in
+    → Fit (a .0) (now (a .1 .0)) (now (a .1 .1 .0)) (now (a .1 .1 .1 .0)) (now (a .1 .1 .1 .1 .0))
+    → a′ .0 ≡ other (a .0) → now (a′ .1 .0) ≡ now (a .1 .0) → now (a′ .1 .1 .0) ≡ now (a .1 .1 .0)
+    → now (a′ .1 .1 .1 .0) ≡ take (length (now (a .1 .1 .1 .0))) (now (s .1 .1 .1 .1 .0)) → length (now (a .1 .1 .1 .0)) ≤ length (now (a′ .1 .1 .1 .1 .0))
+    → Bytes (now (a .1 .1 .0)) → Bytes (now (a .1 .1 .1 .0)) → take (length (now (a .1 .1 .1 .0))) (now (s′ .1 .1 .1 .1 .0)) ≡ now (a .1 .1 .1 .0)
+apply-undoes-apply κs a r s p κs′ a′ r′ s′ q f eo ek ei es room bi bs =
+    let o = a .0 in
+    let key = now (a .1 .0) in
+    let iv = now (a .1 .1 .0) in
+    let inp = now (a .1 .1 .1 .0) in
+    let out = now (a .1 .1 .1 .1 .0) in
+    let out′ = now (a′ .1 .1 .1 .1 .0) in
+    let m = moded 16 (aesOf key) o iv inp in
+    let n = long o key iv inp out bi bs f in
+    let made-is : now (a′ .1 .1 .1 .0) ≡ m =
+    es ∙ ap (take (length inp)) (p .1 ∙ wrote o key iv inp out bi bs f r (apply-as-told κs a r s p)) ∙ take-at m (drop (length m) out) (length inp) n in
+    let f′ : Fit (a′ .0) (now (a′ .1 .0)) (now (a′ .1 .1 .0)) (now (a′ .1 .1 .1 .0)) out′ =
+    rw (eo, ek, ei, made-is) (record { key-taken = f .key-taken; iv-right = f .iv-right ∙ other-iv o; pieces = rw n (f .pieces); room = omega (arith, n) }) in
+    let d : r′ ≡ Done = fit-done _ _ _ _ _ f′ r′ (apply-as-told κs′ a′ r′ s′ q) in
+    let over-is : now (s′ .1 .1 .1 .1 .0) ≡ over inp out′ = q .1 ∙ rw (d, eo, ek, ei, made-is, back o key iv inp out bi bs f) in
     ap (take (length inp)) over-is ∙ take-at inp (drop (length inp) out′) (length inp) refl

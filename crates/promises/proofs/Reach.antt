@@ -6,11 +6,9 @@ use mathlib.Core.List.{List}
 use Prim.Native.Nat.{ℕ}
 use denote.Ref.{now}
 use lib.Dec.{eqb}
-use Rattle.modes.specs.Modes.{modeNumber, modeAnswer}
-use Rattle.modes.specs.declared.Mode.{Mode}
-use Rattle.modes.specs.declared.Mode.the-variants.{Ecb, Cbc, Cfb, Ofb}
-use Rattle.modes.specs.declared.Way.{Way}
-use Rattle.modes.specs.declared.Way.the-variants.{Encrypt, Decrypt}
+use Rattle.modes.specs.Calls.{modeNumber, modeAnswer}
+use Rattle.sp800_38a.specs.declared.Operation.{Operation}
+use Rattle.sp800_38a.specs.declared.Operation.the-variants.{EcbEncrypt, EcbDecrypt, CbcEncrypt, CbcDecrypt, CfbEncrypt, CfbDecrypt, OfbEncrypt, OfbDecrypt}
 use Rattle.modes.proofs.Answers.{kept}
 use Rattle.image.specs.Calls.{startOf, turnOf}
 use Rattle.image.specs.declared.Reader.{Reader}
@@ -76,9 +74,9 @@ dock-decrypt-determined κs a r r′ s s′ p q = p ∙ sym q
 
 -- ---- the modes
 
-mode-keeps : (m : Mode) (w : Way) (key iv inp out : List ℕ) {r : ℕ} → r ≡ modeNumber (modeAnswer m key iv inp out) → (r ≡ 0 → ⊥) → afterMode m w key iv inp out ≡ out
+mode-keeps : (o : Operation) (key iv inp out : List ℕ) {r : ℕ} → r ≡ modeNumber (modeAnswer o key iv inp out) → (r ≡ 0 → ⊥) → afterMode o key iv inp out ≡ out
 unfolding afterMode
-mode-keeps m w key iv inp out e h = kept (modeAnswer m key iv inp out) m w key iv inp out (λ z. h (e ∙ z))
+mode-keeps o key iv inp out e h = kept (modeAnswer o key iv inp out) o key iv inp out (λ z. h (e ∙ z))
 
 pub dock-ecb-encrypt-asks-nothing : (κs : _) (a : _) → dock-ecb-encrypt.Asked κs a
 dock-ecb-encrypt-asks-nothing κs a = tt
@@ -88,7 +86,7 @@ pub dock-ecb-encrypt-determined : (κs : _) (a : _) (r r′ : _) (s s′ : _) �
 dock-ecb-encrypt-determined κs a r r′ s s′ p q = (p .0 ∙ sym (q .0), p .1 ∙ sym (q .1))
 
 pub dock-ecb-encrypt-refused-keeps : (κs : _) (a : _) (r : _) (s : _) → dock-ecb-encrypt.Post κs a r s → (r ≡ 0 → ⊥) → now (s .1 .1 .1 .0) ≡ now (a .1 .1 .1 .0)
-dock-ecb-encrypt-refused-keeps κs a r s p h = p .1 ∙ mode-keeps Ecb Encrypt (now (a .0)) (now (a .1 .0)) (now (a .1 .1 .0)) (now (a .1 .1 .1 .0)) (p .0) h
+dock-ecb-encrypt-refused-keeps κs a r s p h = p .1 ∙ mode-keeps EcbEncrypt (now (a .0)) (now (a .1 .0)) (now (a .1 .1 .0)) (now (a .1 .1 .1 .0)) (p .0) h
 
 pub dock-ecb-decrypt-asks-nothing : (κs : _) (a : _) → dock-ecb-decrypt.Asked κs a
 dock-ecb-decrypt-asks-nothing κs a = tt
@@ -98,7 +96,7 @@ pub dock-ecb-decrypt-determined : (κs : _) (a : _) (r r′ : _) (s s′ : _) �
 dock-ecb-decrypt-determined κs a r r′ s s′ p q = (p .0 ∙ sym (q .0), p .1 ∙ sym (q .1))
 
 pub dock-ecb-decrypt-refused-keeps : (κs : _) (a : _) (r : _) (s : _) → dock-ecb-decrypt.Post κs a r s → (r ≡ 0 → ⊥) → now (s .1 .1 .1 .0) ≡ now (a .1 .1 .1 .0)
-dock-ecb-decrypt-refused-keeps κs a r s p h = p .1 ∙ mode-keeps Ecb Decrypt (now (a .0)) (now (a .1 .0)) (now (a .1 .1 .0)) (now (a .1 .1 .1 .0)) (p .0) h
+dock-ecb-decrypt-refused-keeps κs a r s p h = p .1 ∙ mode-keeps EcbDecrypt (now (a .0)) (now (a .1 .0)) (now (a .1 .1 .0)) (now (a .1 .1 .1 .0)) (p .0) h
 
 pub dock-cbc-encrypt-asks-nothing : (κs : _) (a : _) → dock-cbc-encrypt.Asked κs a
 dock-cbc-encrypt-asks-nothing κs a = tt
@@ -108,7 +106,7 @@ pub dock-cbc-encrypt-determined : (κs : _) (a : _) (r r′ : _) (s s′ : _) �
 dock-cbc-encrypt-determined κs a r r′ s s′ p q = (p .0 ∙ sym (q .0), p .1 ∙ sym (q .1))
 
 pub dock-cbc-encrypt-refused-keeps : (κs : _) (a : _) (r : _) (s : _) → dock-cbc-encrypt.Post κs a r s → (r ≡ 0 → ⊥) → now (s .1 .1 .1 .0) ≡ now (a .1 .1 .1 .0)
-dock-cbc-encrypt-refused-keeps κs a r s p h = p .1 ∙ mode-keeps Cbc Encrypt (now (a .0)) (now (a .1 .0)) (now (a .1 .1 .0)) (now (a .1 .1 .1 .0)) (p .0) h
+dock-cbc-encrypt-refused-keeps κs a r s p h = p .1 ∙ mode-keeps CbcEncrypt (now (a .0)) (now (a .1 .0)) (now (a .1 .1 .0)) (now (a .1 .1 .1 .0)) (p .0) h
 
 pub dock-cbc-decrypt-asks-nothing : (κs : _) (a : _) → dock-cbc-decrypt.Asked κs a
 dock-cbc-decrypt-asks-nothing κs a = tt
@@ -118,7 +116,7 @@ pub dock-cbc-decrypt-determined : (κs : _) (a : _) (r r′ : _) (s s′ : _) �
 dock-cbc-decrypt-determined κs a r r′ s s′ p q = (p .0 ∙ sym (q .0), p .1 ∙ sym (q .1))
 
 pub dock-cbc-decrypt-refused-keeps : (κs : _) (a : _) (r : _) (s : _) → dock-cbc-decrypt.Post κs a r s → (r ≡ 0 → ⊥) → now (s .1 .1 .1 .0) ≡ now (a .1 .1 .1 .0)
-dock-cbc-decrypt-refused-keeps κs a r s p h = p .1 ∙ mode-keeps Cbc Decrypt (now (a .0)) (now (a .1 .0)) (now (a .1 .1 .0)) (now (a .1 .1 .1 .0)) (p .0) h
+dock-cbc-decrypt-refused-keeps κs a r s p h = p .1 ∙ mode-keeps CbcDecrypt (now (a .0)) (now (a .1 .0)) (now (a .1 .1 .0)) (now (a .1 .1 .1 .0)) (p .0) h
 
 pub dock-cfb-encrypt-asks-nothing : (κs : _) (a : _) → dock-cfb-encrypt.Asked κs a
 dock-cfb-encrypt-asks-nothing κs a = tt
@@ -128,7 +126,7 @@ pub dock-cfb-encrypt-determined : (κs : _) (a : _) (r r′ : _) (s s′ : _) �
 dock-cfb-encrypt-determined κs a r r′ s s′ p q = (p .0 ∙ sym (q .0), p .1 ∙ sym (q .1))
 
 pub dock-cfb-encrypt-refused-keeps : (κs : _) (a : _) (r : _) (s : _) → dock-cfb-encrypt.Post κs a r s → (r ≡ 0 → ⊥) → now (s .1 .1 .1 .0) ≡ now (a .1 .1 .1 .0)
-dock-cfb-encrypt-refused-keeps κs a r s p h = p .1 ∙ mode-keeps Cfb Encrypt (now (a .0)) (now (a .1 .0)) (now (a .1 .1 .0)) (now (a .1 .1 .1 .0)) (p .0) h
+dock-cfb-encrypt-refused-keeps κs a r s p h = p .1 ∙ mode-keeps CfbEncrypt (now (a .0)) (now (a .1 .0)) (now (a .1 .1 .0)) (now (a .1 .1 .1 .0)) (p .0) h
 
 pub dock-cfb-decrypt-asks-nothing : (κs : _) (a : _) → dock-cfb-decrypt.Asked κs a
 dock-cfb-decrypt-asks-nothing κs a = tt
@@ -138,7 +136,7 @@ pub dock-cfb-decrypt-determined : (κs : _) (a : _) (r r′ : _) (s s′ : _) �
 dock-cfb-decrypt-determined κs a r r′ s s′ p q = (p .0 ∙ sym (q .0), p .1 ∙ sym (q .1))
 
 pub dock-cfb-decrypt-refused-keeps : (κs : _) (a : _) (r : _) (s : _) → dock-cfb-decrypt.Post κs a r s → (r ≡ 0 → ⊥) → now (s .1 .1 .1 .0) ≡ now (a .1 .1 .1 .0)
-dock-cfb-decrypt-refused-keeps κs a r s p h = p .1 ∙ mode-keeps Cfb Decrypt (now (a .0)) (now (a .1 .0)) (now (a .1 .1 .0)) (now (a .1 .1 .1 .0)) (p .0) h
+dock-cfb-decrypt-refused-keeps κs a r s p h = p .1 ∙ mode-keeps CfbDecrypt (now (a .0)) (now (a .1 .0)) (now (a .1 .1 .0)) (now (a .1 .1 .1 .0)) (p .0) h
 
 pub dock-ofb-encrypt-asks-nothing : (κs : _) (a : _) → dock-ofb-encrypt.Asked κs a
 dock-ofb-encrypt-asks-nothing κs a = tt
@@ -148,7 +146,7 @@ pub dock-ofb-encrypt-determined : (κs : _) (a : _) (r r′ : _) (s s′ : _) �
 dock-ofb-encrypt-determined κs a r r′ s s′ p q = (p .0 ∙ sym (q .0), p .1 ∙ sym (q .1))
 
 pub dock-ofb-encrypt-refused-keeps : (κs : _) (a : _) (r : _) (s : _) → dock-ofb-encrypt.Post κs a r s → (r ≡ 0 → ⊥) → now (s .1 .1 .1 .0) ≡ now (a .1 .1 .1 .0)
-dock-ofb-encrypt-refused-keeps κs a r s p h = p .1 ∙ mode-keeps Ofb Encrypt (now (a .0)) (now (a .1 .0)) (now (a .1 .1 .0)) (now (a .1 .1 .1 .0)) (p .0) h
+dock-ofb-encrypt-refused-keeps κs a r s p h = p .1 ∙ mode-keeps OfbEncrypt (now (a .0)) (now (a .1 .0)) (now (a .1 .1 .0)) (now (a .1 .1 .1 .0)) (p .0) h
 
 pub dock-ofb-decrypt-asks-nothing : (κs : _) (a : _) → dock-ofb-decrypt.Asked κs a
 dock-ofb-decrypt-asks-nothing κs a = tt
@@ -158,7 +156,7 @@ pub dock-ofb-decrypt-determined : (κs : _) (a : _) (r r′ : _) (s s′ : _) �
 dock-ofb-decrypt-determined κs a r r′ s s′ p q = (p .0 ∙ sym (q .0), p .1 ∙ sym (q .1))
 
 pub dock-ofb-decrypt-refused-keeps : (κs : _) (a : _) (r : _) (s : _) → dock-ofb-decrypt.Post κs a r s → (r ≡ 0 → ⊥) → now (s .1 .1 .1 .0) ≡ now (a .1 .1 .1 .0)
-dock-ofb-decrypt-refused-keeps κs a r s p h = p .1 ∙ mode-keeps Ofb Decrypt (now (a .0)) (now (a .1 .0)) (now (a .1 .1 .0)) (now (a .1 .1 .1 .0)) (p .0) h
+dock-ofb-decrypt-refused-keeps κs a r s p h = p .1 ∙ mode-keeps OfbDecrypt (now (a .0)) (now (a .1 .0)) (now (a .1 .1 .0)) (now (a .1 .1 .1 .0)) (p .0) h
 
 -- ---- the check
 

@@ -8,17 +8,18 @@ use native.Mathlib.Omega.{arith}
 use denote.Ref.{now}
 use lib.ListN.{length}
 use lib.Seq.{paste, paste-zero}
-use Rattle.lines.specs.Hex.{isBytes, unhex, bytesOf, hexWord, decodeAnswer}
-use Rattle.lines.specs.Places.{fits, placed}
-use Rattle.lines.specs.declared.Decoded.the-variants.{End, Bad}
+use Rattle.places.specs.Hex.{hexWord}
+use Rattle.places.specs.Places.{fits, placed}
+use Rattle.digits.specs.Hex.{isBytes, unhex, bytesOf, decodeAnswer}
+use Rattle.digits.specs.declared.Decoded.the-variants.{End, Bad}
 use Rattle.lines.proofs.part.Reads as part
 use Rattle.lines.proofs.find.Reads as find
 use Rattle.lines.proofs.count.Reads as count
 use Rattle.lines.proofs.word.Reads as word
-use Rattle.lines.proofs.decode.Reads as decode
-use Rattle.lines.proofs.decimal.Reads as decimal
-use Rattle.lines.proofs.put.Reads as put
-use Rattle.lines.proofs.put_hex.Reads as put-hex
+use Rattle.digits.proofs.decode.Reads as decode
+use Rattle.digits.proofs.decimal.Reads as decimal
+use Rattle.places.proofs.put.Reads as put
+use Rattle.places.proofs.put_hex.Reads as put-hex
 
 pub part-asks-nothing : (κs : _) (a : _) → part.Asked κs a
 part-asks-nothing κs a = tt

@@ -8,7 +8,7 @@ use borrow.Author.Tests.{eqb-true, eqb-false, eq-eqb, ltb-true, ltb-false, le-lt
 use lib.Dec.{eqb, ltb, leb}
 use lib.ListN.{length, take, drop, replicate, length-append, length-drop, take-append-drop}
 use lib.Seq.{length-take-le, take-at, drop-at, take-take, drop-drop, take-append-add, drop-append-add}
-use Rattle.octets.specs.Octets.{choose, Bytes, Octets}
+use Rattle.octets.specs.Octets.{choose, Bytes, Octets, same, over}
 use Rattle.octets.specs.Words.{byte, bytesOf}
 use Rattle.octets.specs.Blocks.{_⊕_, BlockCipher, Lawful}
 use Rattle.octets.proofs.Blocks.{⊕-undo, ⊕-octets, take-bytes, drop-bytes, append-bytes, take-octets}
@@ -16,9 +16,7 @@ use Rattle.octets.proofs.Words.{byte-lt}
 use Rattle.sbox.specs.Sbox.{sBox}
 use Rattle.schedule.specs.Schedule.{scheduleOf, keyNumber}
 use Rattle.fips197.specs.Cipher.{aesOf}
-use Rattle.blocks.specs.Blocks.{same}
 use Rattle.blocks.proofs.Laws.{same-true, same-refl}
-use Rattle.modes.specs.Modes.{over}
 use Rattle.wrap.specs.Wrap.{initial, counter, register, replaced, msb, lsb, step, pass, passes, wrapped, unstep, unpass, unpasses, unwrapped}
 use Rattle.wrap.specs.Calls.{wrapNumber, sizeFits, wrappedSizeFits, wrapRuled, wrapAnswer, wrapOutput, opening, unwrapAnswer, unwrapOutput}
 use Rattle.wrap.specs.declared.WrapAnswer.{WrapAnswer}

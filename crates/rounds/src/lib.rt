@@ -9,7 +9,7 @@ use schedule::is_round_count;
 use states::load;
 use states::store;
 ghost use mathlib.Core.Path.{_≡_};
-ghost use Rattle.sbox.specs.Sbox.{entry};
+ghost use Rattle.octets.specs.Octets.{entry};
 ghost use Rattle.lookups.specs.Tables.{tableEncrypt, tableDecrypt};
 ghost use Rattle.rounds.specs.Pairs.{both};
 

@@ -6,7 +6,7 @@ use states::mirrored;
 use states::mix_columns;
 ghost use mathlib.Core.Path.{_≡_};
 ghost use Prim.Native.Nat.{_-_, _*_, _<_};
-ghost use Rattle.sbox.specs.Sbox.{entry};
+ghost use Rattle.octets.specs.Octets.{entry};
 ghost use Rattle.lookups.specs.Tables.{keyed, tableRounds, tableForth, tableBack, mixedEach};
 ghost use Rattle.rounds.specs.Pairs.{bothStates};
 ghost use Rattle.lookups.specs.Tables as spec;

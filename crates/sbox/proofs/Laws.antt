@@ -3,11 +3,11 @@ use mathlib.Core.Path.{_≡_, refl, sym, ap, _∙_}
 use mathlib.Core.Bool.{Bool}
 use Prim.Native.Nat.{ℕ, _<_}
 use lib.Dec.{eqb, ltb, eqb→eq, ltb→lt}
-use Rattle.octets.specs.Octets.{choose, xor, tabulate}
+use Rattle.octets.specs.Octets.{choose, xor, tabulate, entry}
 use Rattle.octets.proofs.Tests.{at-each, below, on-bytes}
 use Rattle.octets.proofs.Fill.{is-tabulate, getD-tabulate}
 use Rattle.field.specs.Field.{xTimes, productWithin, _•_}
-use Rattle.sbox.specs.Sbox.{square, powerWithin, inverse, bit, fromBits, affine, invAffine, sBox, invSBox, entry}
+use Rattle.sbox.specs.Sbox.{square, powerWithin, inverse, bit, fromBits, affine, invAffine, sBox, invSBox}
 use Rattle.sbox.proofs.Tables.{sBoxTable, invSBoxTable}
 
 -- the product with the inverse is 1 for every byte but 0

@@ -1,9 +1,7 @@
 -- The S-box of FIPS 197, 5.1.1: the inverse in the field, then the affine map; and the way back, 5.3.2.
 -- Assumes nothing: these are definitions.
 use Prim.Native.Nat.{ℕ, zero, suc, _+_, _*_, _/_, _%_, _^_}
-use mathlib.Core.List.{List}
 use lib.Dec.{eqb}
-use lib.ListN.{getD}
 use Rattle.octets.specs.Octets.{choose}
 use Rattle.field.specs.Field.{_•_}
 
@@ -47,7 +45,3 @@ sBox a = affine (inverse a)
 -- INVSBOX
 unfoldable pub invSBox : ℕ → ℕ
 invSBox b = inverse (invAffine b)
-
--- what a table that is lent puts in the place of a byte
-abbrev pub entry : List ℕ → ℕ → ℕ
-entry table x = getD table x 0

@@ -5,11 +5,10 @@ use Prim.Native.Nat.{ℕ, zero, suc, _+_, _-_, _*_, _/_, _≤_, _<_}
 use native.Mathlib.Nat.{le-div-iff-mul-le, one-mul}
 use native.Mathlib.Numerals.{add-one}
 use lib.ListN.{length, getD, set, length-append}
-use Rattle.octets.specs.Octets.{padTo, tabulate}
+use Rattle.octets.specs.Octets.{padTo, tabulate, entry}
 use Rattle.octets.proofs.Fill.{getD-padTo, padTo-more}
 use Rattle.octets.proofs.Words.{byte-lt}
 use Rattle.octets.specs.Words.{byte}
-use Rattle.sbox.specs.Sbox.{entry}
 use Rattle.sbox.proofs.Laws.{entry-table}
 use Rattle.words.specs.Columns.{rotWord, diagonal}
 use Rattle.schedule.specs.Schedule.{temp, nextWord, keyExpansion, taken, scheduleOf}

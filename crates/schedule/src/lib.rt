@@ -7,9 +7,9 @@ use words::substitute;
 ghost use mathlib.Core.Path.{_≡_};
 ghost use Prim.Native.Nat.{_+_, _*_, _≤_, _<_};
 ghost use lib.ListN.{length};
-ghost use Rattle.octets.specs.Octets.{padTo};
+ghost use Rattle.octets.specs.Octets.{padTo, entry};
 ghost use Rattle.field.specs.Field.{xPower};
-ghost use Rattle.sbox.specs.Sbox.{sBox, entry};
+ghost use Rattle.sbox.specs.Sbox.{sBox};
 ghost use Rattle.schedule.specs.Schedule.{rCon, temp, keyWord, nextWord, keyExpansion, taken, scheduleOf, roundCount};
 
 // Whether the key was taken, or refused for its length.

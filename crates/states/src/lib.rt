@@ -5,7 +5,7 @@ use words::middles;
 use words::mix_column;
 use words::spun;
 ghost use mathlib.Core.Path.{_≡_};
-ghost use Rattle.sbox.specs.Sbox.{entry};
+ghost use Rattle.octets.specs.Octets.{entry};
 ghost use Rattle.lookups.specs.Columns.{blockOf, columnsOf};
 ghost use Rattle.lookups.specs.Tables.{lookedLast, mixedEach};
 ghost use Rattle.lookups.specs.Tables as spec;

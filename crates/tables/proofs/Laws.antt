@@ -3,12 +3,12 @@ use mathlib.Core.Path.{_≡_, refl, ap, _∙_}
 use mathlib.Core.Bool.{Bool}
 use Prim.Native.Nat.{ℕ, _<_}
 use lib.Dec.{eqb, eqb→eq}
-use Rattle.octets.specs.Octets.{xor}
+use Rattle.octets.specs.Octets.{xor, entry}
 use Rattle.octets.specs.Words.{word}
 use Rattle.octets.proofs.Tests.{at-each}
 use Rattle.octets.proofs.Fill.{is-tabulate}
 use Rattle.field.specs.Field.{xTimes, productWithin, _•_}
-use Rattle.sbox.specs.Sbox.{sBox, invSBox, entry}
+use Rattle.sbox.specs.Sbox.{sBox, invSBox}
 use Rattle.sbox.proofs.Tables.{sBoxTable, invSBoxTable}
 use Rattle.sbox.proofs.Laws.{sBox-rule, invSBox-rule}
 use Rattle.words.specs.Columns.{row, column, mixColumn, invMixColumn, mixedEntry, invMixedEntry}

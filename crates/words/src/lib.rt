@@ -2,9 +2,8 @@
 ghost use mathlib.Core.Path.{_≡_};
 ghost use Prim.Native.Nat.{_<_};
 ghost use Rattle.octets.specs.Words.{word};
-ghost use Rattle.sbox.specs.Sbox.{entry};
-ghost use Rattle.words.specs.Columns.{rotWord, rotTwo, rotThree, diagonal, IsDiagonal, doubled, mixColumn, invMixColumn};
-ghost use Rattle.words.specs.Columns.{middle};
+ghost use Rattle.octets.specs.Octets.{entry};
+ghost use Rattle.words.specs.Columns.{rotWord, rotTwo, rotThree, diagonal, IsDiagonal, doubled, mixColumn, invMixColumn, middle};
 ghost use Rattle.words.specs.Columns as spec;
 
 pub fn join(a: u8, b: u8, c: u8, d: u8) -> u32

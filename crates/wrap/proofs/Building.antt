@@ -6,10 +6,8 @@ use Prim.Native.Nat.{ℕ, zero, suc, _+_, _-_, _/_, _≤_}
 use native.Mathlib.Omega.{arith}
 use lib.ListN.{length, take, drop, replicate, length-append, length-drop}
 use lib.Seq.{paste, take-at, drop-at, drop-drop, take-append-le, drop-append-le, take-length}
-use Rattle.octets.specs.Octets.{padTo}
+use Rattle.octets.specs.Octets.{padTo, same, over}
 use Rattle.octets.specs.Blocks.{BlockCipher}
-use Rattle.blocks.specs.Blocks.{same}
-use Rattle.modes.specs.Modes.{over}
 use Rattle.wrap.specs.Wrap.{initial, register, passes, wrapped, unpasses, unwrapped}
 use Rattle.wrap.specs.Lent.{openedOver}
 use Rattle.wrap.specs.Calls.{opening}

@@ -6,11 +6,11 @@ use Prim.Native.Nat.{ℕ, zero, suc, _+_, _-_, _*_, _/_, _%_, _≤_, _<_}
 use native.Mathlib.Omega.{arith}
 use lib.ListN.{length, getD, take, drop, set, replicate, length-drop, getD-replicate, drop-of-length-le}
 use lib.Seq.{paste, take-all, take-take, take-add, drop-at, drop-drop, getD-take, take-append-add, drop-append-add, length-take-le}
-use Rattle.octets.specs.Octets.{xor}
+use Rattle.octets.specs.Octets.{xor, same}
 use Rattle.octets.specs.Words.{bytesOf}
 use Rattle.octets.specs.Blocks.{_⊕_}
 use Rattle.octets.proofs.Xor.{xor-zero}
-use Rattle.blocks.specs.Blocks.{blockAt, same}
+use Rattle.blocks.specs.Blocks.{blockAt}
 use Rattle.blocks.proofs.Laws.{block-at, same-step, same-differ, same-end}
 use Rattle.wrap.specs.Wrap.{initial, counter, register, replaced, msb, lsb}
 

@@ -4,13 +4,11 @@ use mathlib.Core.Bool.{Bool, _&&_}
 use mathlib.Core.List.{List}
 use lib.Dec.{eqb, ltb, leb}
 use lib.ListN.{length, drop}
-use Rattle.octets.specs.Octets.{choose}
+use Rattle.octets.specs.Octets.{choose, same, over}
 use Rattle.octets.specs.Blocks.{BlockCipher}
 use Rattle.sbox.specs.Sbox.{sBox}
 use Rattle.schedule.specs.Schedule.{scheduleOf, keyNumber}
 use Rattle.fips197.specs.Cipher.{aesOf}
-use Rattle.blocks.specs.Blocks.{same}
-use Rattle.modes.specs.Modes.{over}
 use Rattle.wrap.specs.Wrap.{initial, register, wrapped, unwrapped}
 use Rattle.wrap.specs.declared.WrapAnswer.{WrapAnswer}
 use Rattle.wrap.specs.declared.WrapAnswer.the-variants.{WrapDone, WrapKey, WrapSize, WrapRoom, WrongInitial}

@@ -2,16 +2,9 @@
 use Prim.Native.Nat.{ℕ}
 use mathlib.Core.List.{List}
 use lib.ListN.{drop}
-use Rattle.octets.specs.Octets.{choose}
+use Rattle.octets.specs.Octets.{choose, same, over}
 use Rattle.octets.specs.Blocks.{BlockCipher}
-use Rattle.lookups.specs.Tables.{oneTable}
-use Rattle.blocks.specs.Blocks.{same}
-use Rattle.modes.specs.Modes.{over}
 use Rattle.wrap.specs.Wrap.{initial, register, unwrapped}
-
--- the block cipher by lookups in a lent table: wrapping uses one way of it and unwrapping the other, each over the table and the schedule of that way
-abbrev pub lent : List ℕ → List ℕ → ℕ → BlockCipher
-lent table w nr = oneTable table w nr
 
 -- the output after unwrapping: the key data where A is the initial value, else as it was
 abbrev pub openedOver : BlockCipher → (dat out : List ℕ) → List ℕ

@@ -14,11 +14,11 @@ use tables::inverse_table;
 ghost use mathlib.Core.Path.{_≡_};
 ghost use Prim.Native.Nat.{_+_, _-_, _%_, _≤_};
 ghost use lib.ListN.{length};
-ghost use Rattle.octets.specs.Octets.{padTo};
+ghost use Rattle.octets.specs.Octets.{padTo, over};
 ghost use Rattle.schedule.specs.Schedule.{keyNumber};
-ghost use Rattle.modes.specs.Modes.{over};
 ghost use Rattle.wrap.specs.Wrap.{wrapped, unwrapped};
-ghost use Rattle.wrap.specs.Lent.{lent, openedOver};
+ghost use Rattle.lookups.specs.Tables.{oneTable};
+ghost use Rattle.wrap.specs.Lent.{openedOver};
 ghost use Rattle.wrap.specs.declared.WrapAnswer.the-variants.{WrapDone};
 ghost use Rattle.wrap.specs.Calls as spec;
 
@@ -129,7 +129,7 @@ fn judge_unwrap(key: KeyAnswer, len: usize, room: usize) -> WrapAnswer
 // Nothing is refused from here on, so the registers stand in the output itself.
 fn wrap_into(table: &[u32; 256], words: &[u32; 60], rounds: usize, given: &[u8], output: &mut [u8])
     requires { ⌜ (length (now given) ≤ 64) × (length (now given) % 8 ≡ 0) × (length (now given) + 8 ≤ length (now output)) ⌝ }
-    ensures { λ _. ⌜ now (output .exit) ≡ over (wrapped (lent (now (table .entry)) (now (words .entry)) rounds) (now (given .entry))) (now (output .entry)) ⌝ }
+    ensures { λ _. ⌜ now (output .exit) ≡ over (wrapped (oneTable (now (table .entry)) (now (words .entry)) rounds) (now (given .entry))) (now (output .entry)) ⌝ }
 {
     let first = [0xa6u8; 8];
     copy(&first, output, 0);
@@ -147,8 +147,8 @@ fn unwrap_into(
     output: &mut [u8],
 ) -> WrapAnswer
     requires { ⌜ (8 ≤ length (now given)) × (length (now given) ≤ 72) × (length (now given) % 8 ≡ 0) × (length (now given) ≤ length (now output) + 8) ⌝ }
-    ensures answer { λ r. ⌜ r ≡ spec.opening (lent (now (table .entry)) (now (words .entry)) rounds) (now (given .entry)) ⌝ }
-    ensures written { λ r. ⌜ now (output .exit) ≡ openedOver (lent (now (table .entry)) (now (words .entry)) rounds) (now (given .entry)) (now (output .entry)) ⌝ }
+    ensures answer { λ r. ⌜ r ≡ spec.opening (oneTable (now (table .entry)) (now (words .entry)) rounds) (now (given .entry)) ⌝ }
+    ensures written { λ r. ⌜ now (output .exit) ≡ openedOver (oneTable (now (table .entry)) (now (words .entry)) rounds) (now (given .entry)) (now (output .entry)) ⌝ }
 {
     let w = opened(table, words, rounds, given);
     if !is_initial(&w) {
@@ -161,8 +161,8 @@ fn unwrap_into(
 // The registers at the end, then zeros.
 fn opened(table: &[u32; 256], words: &[u32; 60], rounds: usize, given: &[u8]) -> [u8; 72]
     requires { ⌜ (8 ≤ length (now given)) × (length (now given) ≤ 72) × (length (now given) % 8 ≡ 0) ⌝ }
-    ensures registers { λ r. ⌜ r ≡ padTo 72 (unwrapped (lent (now (table .entry)) (now (words .entry)) rounds) (now (given .entry))) ⌝ }
-    ensures size { λ _. ⌜ length (unwrapped (lent (now (table .entry)) (now (words .entry)) rounds) (now (given .entry))) ≡ length (now (given .entry)) ⌝ }
+    ensures registers { λ r. ⌜ r ≡ padTo 72 (unwrapped (oneTable (now (table .entry)) (now (words .entry)) rounds) (now (given .entry))) ⌝ }
+    ensures size { λ _. ⌜ length (unwrapped (oneTable (now (table .entry)) (now (words .entry)) rounds) (now (given .entry))) ≡ length (now (given .entry)) ⌝ }
 {
     let mut w = [0u8; 72];
     copy(given, &mut w, 0);

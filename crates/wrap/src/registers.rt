@@ -6,7 +6,7 @@ ghost use Prim.Native.Nat.{_+_, _*_, _≤_, _<_};
 ghost use lib.ListN.{length, drop};
 ghost use lib.Seq.{paste};
 ghost use Rattle.octets.specs.Blocks.{_⊕_};
-ghost use Rattle.blocks.specs.Blocks.{same};
+ghost use Rattle.octets.specs.Octets.{same};
 ghost use Rattle.wrap.specs.Wrap.{initial, counter, register, replaced, msb, lsb};
 
 // A and R[i] side by side: what the block cipher is given.

@@ -1,6 +1,6 @@
 use Rattle.abi.specs.Abi.{afterMode}
 use mathlib.Core.Path.{ap, _∙_}
-use Rattle.modes.specs.Modes.{modeNumber, modeOutput}
+use Rattle.modes.specs.Calls.{modeNumber, modeOutput}
 use Rattle.modes.specs.declared.ModeAnswer.{ModeAnswer}
 use borrow.Author.Needs.{needs}
 use Rattle.abi.proofs.moded.Statement.{statement}
@@ -22,7 +22,7 @@ returns c =
     let a = m .before .before .before .before .before .before .args in
     let e = m .apply .ensures in (
       c .mode-number .ensures ∙ ap modeNumber (e .0),
-      e .1 ∙ ap (λ (x : ModeAnswer). modeOutput x (a .mode) (a .way) (a .key .now) (a .iv .now) (a .input .now) (a .output .now)) (e .0),
+      e .1 ∙ ap (λ (x : ModeAnswer). modeOutput x (a .operation) (a .key .now) (a .iv .now) (a .input .now) (a .output .now)) (e .0),
     )
 
 pub moded-spec : {M : Type 1} → statement M

@@ -1,5 +1,5 @@
 use Rattle.blocks.proofs.Laws.{same-step, same-differ, same-end}
-use Rattle.blocks.specs.Blocks.{same}
+use Rattle.octets.specs.Octets.{same}
 use lib.ListN.{drop}
 use Prim.Native.Nat.{_≤_, _-_}
 use mathlib.Core.Path.{_≡_, refl, _∙_}

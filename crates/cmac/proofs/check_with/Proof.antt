@@ -1,7 +1,7 @@
 use mathlib.Core.Path.{_∙_}
 use denote.Ref.{now}
-use Rattle.cmac.specs.Running.{lent}
-use Rattle.cmac.proofs.Chain.{whole-fed}
+use Rattle.lookups.specs.Tables.{oneTable}
+use Rattle.running.proofs.Laws.{whole-fed}
 use borrow.Author.Needs.{needs}
 use Rattle.cmac.proofs.check_with.Statement.{statement}
 use Rattle.cmac.proofs.check_with.Tie as tie
@@ -18,7 +18,7 @@ closed-requires c κs = search needs
 returns : tie.Need-returns
 returns c =
     let a = c .before .before .before .before .args in
-    c .closed .ensures ∙ rw (c .before .fed .ensures, c .before .before .new .ensures) (whole-fed (lent (now (a .table)) (now (a .words)) (a .rounds)) (now (a .message)))
+    c .closed .ensures ∙ rw (c .before .fed .ensures, c .before .before .new .ensures) (whole-fed (oneTable (now (a .table)) (now (a .words)) (a .rounds)) (now (a .message)))
 
 pub check-with-spec : {M : Type 1} → statement M
 check-with-spec = tie.close (tie.spec new-requires fed-requires closed-requires returns)

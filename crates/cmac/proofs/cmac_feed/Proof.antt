@@ -40,7 +40,7 @@ use denote.Triple.Spec.{Meets, tripleOf}
 use denote.Triple.Table.{entered, cited}
 use denote.Triple.Walked.{says, Stays, stay-ref, stay-none-slice, walkOf, goes-ref, goes-none-slice, Walks, ends-at, walked, walk-meets}
 use denote.Exit.{yes}
-use Rattle.cmac.specs.Running.{fedWith}
+use Rattle.cmac.specs.Calls.{fedWith}
 use Rattle.cmac.specs.declared.Record.{Record}
 use Rattle.cmac.proofs.Record as T
 use Rattle.cmac.proofs.Record.Laws as T′

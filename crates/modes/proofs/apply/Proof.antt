@@ -20,8 +20,8 @@ returns : tie.Need-returns
 returns c =
     let k = c .before in
     let a = k .before .before .before .before .before .before .before .before .args in (
-      answered (a .mode) (now (a .key)) (now (a .iv)) (now (a .input)) (now (a .output)) _ _ (k .before .before .before .new .ensures) (k .judge .ensures),
-      sym (refused-keeps (k .judge .result) (a .mode) (a .way) (now (a .key)) (now (a .iv)) (now (a .input)) (now (a .output)) (c .match .keys2)),
+      answered (a .operation) (now (a .key)) (now (a .iv)) (now (a .input)) (now (a .output)) _ _ (k .before .before .before .new .ensures) (k .judge .ensures),
+      sym (refused-keeps (k .judge .result) (a .operation) (now (a .key)) (now (a .iv)) (now (a .input)) (now (a .output)) (c .match .keys2)),
     )
 
 load-requires : tie.Need-load-requires
@@ -41,8 +41,8 @@ returns-2 c =
     let bs : Bytes (now (a .input)) = λ i. omega (arith, k .before .before .before .before .before .shared-slice-known3 .given i) in
     let pe = k .before .before .before .new .ensures in
     let pr = k .judge .ensures in (
-      answered (a .mode) (now (a .key)) (now (a .iv)) (now (a .input)) (now (a .output)) _ _ pe pr,
-      written (a .mode) (now (a .key)) (now (a .iv)) (now (a .input)) (now (a .output)) _ _ pe pr (a .way) _ _
+      answered (a .operation) (now (a .key)) (now (a .iv)) (now (a .input)) (now (a .output)) _ _ pe pr,
+      written (a .operation) (now (a .key)) (now (a .iv)) (now (a .input)) (now (a .output)) _ _ pe pr _ _ _
           (c .before .before .before .before .load .ensures) bi bs (c .before .before .before .before .before .before .enum-told .given .1) (c .before .before .under .ensures),
     )
 

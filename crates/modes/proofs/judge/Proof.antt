@@ -1,6 +1,6 @@
 use mathlib.Core.Path.{sym, _∙_}
 use borrow.Author.Tests.{eq-eqb, ne-eqb, lt-ltb, le-ltb}
-use Rattle.modes.specs.Modes.{ruled}
+use Rattle.modes.specs.Calls.{ruled}
 use borrow.Author.Needs.{needs}
 use Rattle.modes.proofs.judge.Statement.{statement}
 use Rattle.modes.proofs.judge.Tie as tie

@@ -1,6 +1,6 @@
 use Prim.Native.Nat.{ℕ}
-use Rattle.modes.proofs.Agree.{through-forward, through-backward}
-use Rattle.modes.specs.Modes.{through}
+use Rattle.pieces.proofs.Agree.{through-forward, through-backward}
+use Rattle.pieces.specs.Runs.{through}
 use Rattle.lookups.specs.Tables.{oneTable, inverseWords}
 use Rattle.tables.specs.Tables.{forwardTable, inverseTable}
 use denote.Ref.{now}
@@ -22,12 +22,6 @@ inverse-words-requires c κs = search needs
 run-requires : tie.Need-run-requires
 run-requires c κs = search needs
 
-forward-table-requires : tie.Need-forward-table-requires
-forward-table-requires c κs = search needs
-
-run-requires-2 : tie.Need-run-requires-2
-run-requires-2 c κs = search needs
-
 same-length : tie.Need-same-length
 same-length c = search needs
 
@@ -37,10 +31,16 @@ returns c =
     let a = k .before .before .before .before .before .before .args in
     let w = now (a .words) in
     c .before .before .run .ensures
-    ∙ ap₂ (λ (t v : List ℕ). through (oneTable t v (a .rounds)) (a .mode) (a .way) (a .iv) (now (a .input)) (now (a .output)))
+    ∙ ap₂ (λ (t v : List ℕ). through (oneTable t v (a .rounds)) (a .operation) (a .iv) (now (a .input)) (now (a .output)))
     (k .before .inverse-table .ensures) (k .inverse-words .ensures)
-    ∙ through-backward forwardTable inverseTable w (inverseWords w (a .rounds)) (a .rounds) (a .mode) (a .way) (a .iv) (now (a .input)) (now (a .output))
+    ∙ through-backward forwardTable inverseTable w (inverseWords w (a .rounds)) (a .rounds) (a .operation) (a .iv) (now (a .input)) (now (a .output))
     (sym (k .before .before .before .inverts .ensures) ∙ k .before .before .if1 .taken)
+
+forward-table-requires : tie.Need-forward-table-requires
+forward-table-requires c κs = search needs
+
+run-requires-2 : tie.Need-run-requires-2
+run-requires-2 c κs = search needs
 
 same-length-2 : tie.Need-same-length-2
 same-length-2 c = search needs
@@ -51,8 +51,8 @@ returns-2 c =
     let a = k .before .before .before .before .before .args in
     let w = now (a .words) in
     c .before .before .run2 .ensures
-    ∙ ap (λ (t : List ℕ). through (oneTable t w (a .rounds)) (a .mode) (a .way) (a .iv) (now (a .input)) (now (a .output))) (k .forward-table .ensures)
-    ∙ through-forward forwardTable inverseTable w (inverseWords w (a .rounds)) (a .rounds) (a .mode) (a .way) (a .iv) (now (a .input)) (now (a .output))
+    ∙ ap (λ (t : List ℕ). through (oneTable t w (a .rounds)) (a .operation) (a .iv) (now (a .input)) (now (a .output))) (k .forward-table .ensures)
+    ∙ through-forward forwardTable inverseTable w (inverseWords w (a .rounds)) (a .rounds) (a .operation) (a .iv) (now (a .input)) (now (a .output))
     (sym (k .before .before .inverts .ensures) ∙ k .before .if1 .left)
 
 pub under-spec : {M : Type 1} → statement M
@@ -63,9 +63,9 @@ under-spec =
     inverse-table-requires
     inverse-words-requires
     run-requires
-    forward-table-requires
-    run-requires-2
     same-length
     returns
+    forward-table-requires
+    run-requires-2
     same-length-2
     returns-2)

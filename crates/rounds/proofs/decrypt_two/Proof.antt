@@ -1,7 +1,7 @@
 use Rattle.lookups.specs.declared.Columns.{Columns}
 use mathlib.Core.Path.{sym, ap, _∙_}
 use denote.Ref.{now}
-use Rattle.sbox.specs.Sbox.{entry}
+use Rattle.octets.specs.Octets.{entry}
 use Rattle.lookups.specs.Columns.{blockOf}
 use Rattle.lookups.specs.Tables.{tableBack, tableDecrypt}
 use Rattle.rounds.specs.declared.loops.TwoStates.{TwoStates}

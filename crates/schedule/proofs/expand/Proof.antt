@@ -3,9 +3,8 @@ use mathlib.Core.List.{List}
 use Prim.Native.Nat.{ℕ, _+_, _*_, _≤_, _-_}
 use denote.Ref.{now}
 use lib.ListN.{set}
-use Rattle.octets.specs.Octets.{padTo}
+use Rattle.octets.specs.Octets.{padTo, entry}
 use Rattle.octets.proofs.Fill.{padTo-none}
-use Rattle.sbox.specs.Sbox.{entry}
 use Rattle.schedule.specs.Schedule.{keyExpansion, nextWord}
 use Rattle.schedule.proofs.Laws.{expansion-more}
 use borrow.Author.Needs.{needs}

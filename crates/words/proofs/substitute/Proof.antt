@@ -1,5 +1,5 @@
 use denote.Ref.{now}
-use Rattle.sbox.specs.Sbox.{entry}
+use Rattle.octets.specs.Octets.{entry}
 use Rattle.words.proofs.Rotate.{is-diagonal}
 use Rattle.words.specs.Columns.{diagonal}
 use borrow.Author.Needs.{needs}

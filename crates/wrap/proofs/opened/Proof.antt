@@ -1,7 +1,7 @@
 use lib.ListN.{length}
 use Prim.Native.Nat.{_-_}
 use mathlib.Core.Path.{refl}
-use Rattle.wrap.specs.Lent.{lent}
+use Rattle.lookups.specs.Tables.{oneTable}
 use Rattle.wrap.proofs.Building.{opened-by, opened-size}
 use native.Mathlib.Omega.{arith}
 use borrow.Author.Needs.{needs}
@@ -35,7 +35,7 @@ returns c =
     let cp = c .before .before .before .before .copy in
     let s = c .before .before .before .before .before .before .before in
     let a = s .args in
-    let k = lent (a .table .now) (a .words .now) (a .rounds) in (
+    let k = oneTable (a .table .now) (a .words .now) (a .rounds) in (
       opened-by k (a .given .now) (length (a .given .now) - 0) (omega arith) _ _ _ (cp .ensures) (u .ensures) (u .kept .1 .1 .1 .1 .0) refl,
       opened-size k (a .given .now) (length (a .given .now) - 0) (omega arith) _ _ _ (cp .ensures) (u .ensures) (u .kept .1 .1 .1 .1 .0) refl,
     )

@@ -1,5 +1,5 @@
 use borrow.Author.Tests.{not-true, not-false}
-use Rattle.wrap.specs.Lent.{lent}
+use Rattle.lookups.specs.Tables.{oneTable}
 use Rattle.wrap.proofs.Building.{opened-wrong, opened-right}
 use borrow.Author.Needs.{needs}
 use Rattle.wrap.proofs.unwrap_into.Statement.{statement}
@@ -19,7 +19,7 @@ returns c =
     let o = c .before .before .before .opened in
     let s = c .before .before .before .before .before .before in
     let a = s .args in
-    opened-wrong (lent (a .table .now) (a .words .now) (a .rounds)) (a .given .now) (a .output .now) (o .result) (s .pre .0) (o .ensures .0) (o .ensures .1) _ (c .before .is-initial .ensures) (not-true _ (c .if1 .taken))
+    opened-wrong (oneTable (a .table .now) (a .words .now) (a .rounds)) (a .given .now) (a .output .now) (o .result) (s .pre .0) (o .ensures .0) (o .ensures .1) _ (c .before .is-initial .ensures) (not-true _ (c .if1 .taken))
 
 sub-copy : tie.Need-sub-copy
 sub-copy c = search needs
@@ -42,7 +42,7 @@ returns-2 c =
     let i = c .before .before .before .before .before .before in
     let s = c .before .before .before .before .before .before .before .before .before .before .before .before in
     let a = s .args in
-    opened-right (lent (a .table .now) (a .words .now) (a .rounds)) (a .given .now) (a .output .now) (o .result) (s .pre .0) (o .ensures .0) (o .ensures .1) _ (i .before .is-initial .ensures) (not-false _ (i .if1 .left)) _ (c .before .before .copy .ensures)
+    opened-right (oneTable (a .table .now) (a .words .now) (a .rounds)) (a .given .now) (a .output .now) (o .result) (s .pre .0) (o .ensures .0) (o .ensures .1) _ (i .before .is-initial .ensures) (not-false _ (i .if1 .left)) _ (c .before .before .copy .ensures)
 
 pub unwrap-into-spec : {M : Type 1} → statement M
 unwrap-into-spec =

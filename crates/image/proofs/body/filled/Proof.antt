@@ -1,11 +1,9 @@
-use mathlib.Core.Path.{ap}
-use Prim.Native.Nat.{_<_}
+use mathlib.Core.Path.{ap, _≡_, refl, _∙_}
+use Prim.Native.Nat.{_<_, _-_, _≤_, _+_, suc}
 use Rattle.octets.proofs.Fill.{padTo-none, padTo-more}
 use Rattle.octets.specs.Octets.{padTo}
 use lib.Seq.{take-suc, take-all, length-take-le}
 use lib.ListN.{length, take, getD}
-use Prim.Native.Nat.{_-_, _≤_, _+_, suc}
-use mathlib.Core.Path.{_≡_, refl, _∙_}
 use borrow.Author.Needs.{needs}
 use native.Mathlib.Omega.{arith}
 use Rattle.image.proofs.body.filled.Statement.{statement}

@@ -1,11 +1,11 @@
-use Prim.Native.Nat.{_+_, _-_}
-use mathlib.Core.Path.{_≡_, refl, _∙_}
+use mathlib.Core.List.{List}
+use Prim.Native.Nat.{ℕ, _+_, _-_}
+use mathlib.Core.Path.{_≡_, refl, _∙_, ap}
 use Rattle.image.specs.Lent.{lentBoth}
-use Rattle.sbox.specs.Sbox.{entry}
+use Rattle.octets.specs.Octets.{entry}
 use Rattle.image.proofs.Opening.{open-by, encrypt-sized, decrypt-sized}
-use Rattle.modes.proofs.Agree.{through-backward}
-use Rattle.modes.specs.declared.Way.the-variants.{Decrypt}
-use Rattle.modes.specs.declared.Mode.the-variants.{Cbc}
+use Rattle.pieces.proofs.Agree.{through-backward}
+use Rattle.sp800_38a.specs.declared.Operation.the-variants.{CbcEncrypt, CbcDecrypt}
 use native.Mathlib.Omega.{arith}
 use borrow.Author.Needs.{needs}
 use Rattle.image.proofs.body.open_into.Statement.{statement}
@@ -54,7 +54,7 @@ returns c =
     let n : (a .at + 480) - a .at ≡ 480 = omega arith in
     open-by (a .block .now) (s .pre .0) (lentBoth (a .forth .now) (a .back .now) (a .ewords .now) (a .dwords .now) (a .rounds))
     (encrypt-sized (entry (a .forth .now)) (a .ewords .now) (a .rounds)) (decrypt-sized (entry (a .back .now)) (a .dwords .now) (a .rounds)) (a .output .now) (a .at) ((a .at + 480) - a .at) (s .pre .1) n
-    _ _ _ _ (l .load .ensures) (e .encrypt-block .ensures) (r .run .ensures ∙ through-backward (a .forth .now) (a .back .now) (a .ewords .now) (a .dwords .now) (a .rounds) Cbc Decrypt _ _ _ refl) refl
+    _ _ _ _ (l .load .ensures) (e .encrypt-block .ensures) (ap (λ (x : List ℕ × List ℕ). x .1) (r .run .ensures ∙ through-backward (a .forth .now) (a .back .now) (a .ewords .now) (a .dwords .now) (a .rounds) CbcDecrypt _ _ _ refl)) refl
 
 pub open-into-spec : {M : Type 1} → statement M
 open-into-spec =

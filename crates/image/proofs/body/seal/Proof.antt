@@ -1,6 +1,8 @@
+use mathlib.Core.List.{List}
+use Prim.Native.Nat.{ℕ}
 use Rattle.image.proofs.Sealing.{seal-by}
-use Rattle.cmac.specs.Running.{lent}
-use mathlib.Core.Path.{refl}
+use Rattle.lookups.specs.Tables.{oneTable}
+use mathlib.Core.Path.{ap, refl}
 use borrow.Author.Needs.{needs}
 use Rattle.image.proofs.body.seal.Statement.{statement}
 use Rattle.image.proofs.body.seal.Tie as tie
@@ -59,8 +61,8 @@ returns c =
     let fl = st .before .before in
     let s = fl .before .before .before .before .before in
     let a = s .args in
-    seal-by (lent (a .forth .now) (a .ewords .now) (a .rounds .enc)) (lent (a .forth .now) (a .cwords .now) (a .rounds .chk)) (a .head) (a .payload .now) (a .output .now) (s .pre .0) (s .pre .1)
-    _ _ _ _ _ _ _ _ (fl .before .before .head-bytes .ensures) (fl .before .encrypt-block .ensures) (fl .filled .ensures) (st .store .ensures) (rn .run .ensures) (rn .run .kept .1 .1 .1 .1 .1 .1 .1 .0) refl (ck .check-with .ensures) (ck .check-with .ok .1 .0 .1) (st2 .store2 .ensures)
+    seal-by (oneTable (a .forth .now) (a .ewords .now) (a .rounds .enc)) (oneTable (a .forth .now) (a .cwords .now) (a .rounds .chk)) (a .head) (a .payload .now) (a .output .now) (s .pre .0) (s .pre .1)
+    _ _ _ _ _ _ _ _ (fl .before .before .head-bytes .ensures) (fl .before .encrypt-block .ensures) (fl .filled .ensures) (st .store .ensures) (ap (λ (x : List ℕ × List ℕ). x .1) (rn .run .ensures)) (rn .run .kept .1 .1 .1 .1 .1 .1 .0) refl (ck .check-with .ensures) (ck .check-with .ok .1 .0 .1) (st2 .store2 .ensures)
 
 pub seal-spec : {M : Type 1} → statement M
 seal-spec =

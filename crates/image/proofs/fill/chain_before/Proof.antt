@@ -2,7 +2,7 @@ use Rattle.blocks.specs.Blocks.{blockAt}
 use mathlib.Core.Path.{_≡_, ap, _∙_}
 use Prim.Native.Nat.{_*_}
 use Rattle.lookups.specs.Tables.{tableEncrypt}
-use Rattle.sbox.specs.Sbox.{entry}
+use Rattle.octets.specs.Octets.{entry}
 use Rattle.blocks.proofs.Laws.{block-at}
 use Rattle.image.proofs.Opening.{first-chain, later-chain}
 use native.Mathlib.Omega.{arith}

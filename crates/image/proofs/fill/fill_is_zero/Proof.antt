@@ -1,7 +1,7 @@
 use mathlib.Core.Path.{_≡_, sym, ap, _∙_}
 use Prim.Native.Nat.{ℕ, _+_, _-_, _*_, _/_, _%_, _<_}
 use lib.ListN.{length, drop}
-use Rattle.sbox.specs.Sbox.{entry}
+use Rattle.octets.specs.Octets.{entry}
 use Rattle.image.specs.Lent.{lentBoth}
 use Rattle.image.specs.Sealed.{allZero, opened}
 use Rattle.image.proofs.Bytes.{zero-end, flip}

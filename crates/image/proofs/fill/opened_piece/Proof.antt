@@ -1,5 +1,5 @@
 use Rattle.image.specs.Lent.{lentBoth}
-use Rattle.sbox.specs.Sbox.{entry}
+use Rattle.octets.specs.Octets.{entry}
 use Rattle.image.proofs.Opening.{piece-by, encrypt-sized, decrypt-sized}
 use borrow.Author.Needs.{needs}
 use Rattle.image.proofs.fill.opened_piece.Statement.{statement}

@@ -1,5 +1,5 @@
 use Rattle.image.proofs.Opening.{opened-size, encrypt-sized, decrypt-sized}
-use Rattle.sbox.specs.Sbox.{entry}
+use Rattle.octets.specs.Octets.{entry}
 use Rattle.header.specs.Rules.{firstOf, headTests}
 use Rattle.header.specs.declared.Head.{Head}
 use Rattle.image.proofs.Judged.{refused-not, judged-last, judged-check, judged-head, judged-fill, judged-passed, after-refused}

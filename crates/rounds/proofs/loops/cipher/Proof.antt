@@ -1,5 +1,5 @@
 use Rattle.lookups.specs.Tables.{keyed, lookedLast, tableForth}
-use Rattle.sbox.specs.Sbox.{entry}
+use Rattle.octets.specs.Octets.{entry}
 use denote.Ref.{now}
 use mathlib.Core.Path.{ap, _∙_}
 use borrow.Author.Needs.{needs}

@@ -1,7 +1,7 @@
 use Rattle.lookups.specs.Tables.{keyed, lookedLast, tableForth}
 use mathlib.Core.Path.{ap, _∙_}
 use denote.Ref.{now}
-use Rattle.sbox.specs.Sbox.{entry}
+use Rattle.octets.specs.Octets.{entry}
 use Rattle.rounds.specs.declared.loops.TwoStates.{TwoStates}
 use Rattle.rounds.proofs.Pairs.{are-states}
 use borrow.Author.Needs.{needs}

@@ -2,7 +2,7 @@ use Rattle.lookups.specs.Tables.{keyed, looked, tableRounds, tableBack, mirrore
 use mathlib.Core.Path.{ap, _∙_}
 use Prim.Native.Nat.{_-_}
 use denote.Ref.{now}
-use Rattle.sbox.specs.Sbox.{entry}
+use Rattle.octets.specs.Octets.{entry}
 use Rattle.rounds.specs.declared.loops.TwoStates.{TwoStates}
 use Rattle.lookups.specs.declared.Columns.{Columns}
 use Rattle.rounds.proofs.Pairs.{are-states}

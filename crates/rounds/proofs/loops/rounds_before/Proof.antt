@@ -1,6 +1,6 @@
 use Rattle.lookups.proofs.Steps.{table-none, table-next}
 use Rattle.lookups.specs.Tables.{tableRounds}
-use Rattle.sbox.specs.Sbox.{entry}
+use Rattle.octets.specs.Octets.{entry}
 use denote.Ref.{now}
 use Prim.Native.Nat.{_+_, _-_, _≤_, _<_}
 use mathlib.Core.Path.{_≡_}

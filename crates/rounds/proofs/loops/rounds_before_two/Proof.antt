@@ -1,7 +1,7 @@
 use mathlib.Core.Path.{_≡_}
 use Prim.Native.Nat.{_+_, _-_, _≤_, _<_}
 use denote.Ref.{now}
-use Rattle.sbox.specs.Sbox.{entry}
+use Rattle.octets.specs.Octets.{entry}
 use Rattle.lookups.specs.Tables.{keyed, tableRounds}
 use Rattle.lookups.specs.declared.Columns.{Columns}
 use Rattle.lookups.proofs.Steps.{table-none, table-next}

@@ -2,7 +2,8 @@ use mathlib.Core.Path.{ap, _∙_}
 use mathlib.Core.List.{List}
 use Prim.Native.Nat.{ℕ}
 use denote.Ref.{now}
-use Rattle.sbox.specs.Sbox.{sBox, entry}
+use Rattle.sbox.specs.Sbox.{sBox}
+use Rattle.octets.specs.Octets.{entry}
 use Rattle.schedule.specs.Schedule.{scheduleOf}
 use Rattle.schedule.proofs.Laws.{schedule-table}
 use borrow.Author.Needs.{needs}

@@ -1,4 +1,4 @@
-use Rattle.blocks.specs.Blocks.{same}
+use Rattle.octets.specs.Octets.{same}
 use Rattle.wrap.specs.Wrap.{initial}
 use Rattle.wrap.proofs.Places.{initial-step, initial-differs, initial-end}
 use mathlib.Core.Path.{_≡_, refl, _∙_}

@@ -1,8 +1,7 @@
-use Prim.Native.Nat.{ℕ}
+use Prim.Native.Nat.{ℕ, _-_, _≤_, _+_, _*_, suc}
 use mathlib.Core.List.{List}
 use Rattle.wrap.proofs.Places.{paired}
 use mathlib.Core.Path.{_≡_, ap, _∙_}
-use Prim.Native.Nat.{_-_, _≤_, _+_, _*_, suc}
 use lib.ListN.{length, drop, length-set, length-drop}
 use lib.Seq.{paste, paste-zero, paste-suc, getD-drop}
 use borrow.Author.Needs.{needs}

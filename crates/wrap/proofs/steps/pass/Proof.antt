@@ -1,7 +1,7 @@
 use mathlib.Core.Path.{_≡_, refl, sym, ap, _∙_}
 use Prim.Native.Nat.{ℕ, _+_, _*_, _-_, _≤_}
 use lib.ListN.{length}
-use Rattle.wrap.specs.Lent.{lent}
+use Rattle.lookups.specs.Tables.{oneTable}
 use Rattle.wrap.specs.Wrap.{step, pass}
 use Rattle.wrap.proofs.Sizes.{product-fits}
 use Rattle.wrap.proofs.Passing.{pass-none, pass-more}
@@ -11,7 +11,7 @@ use Rattle.wrap.proofs.steps.pass.Statement.{statement}
 use Rattle.wrap.proofs.steps.pass.Tie as tie
 
 abbrev Inv-loop : tie.InvT-loop
-Inv-loop table words rounds n j w₀ m₀ w m = (m ≤ n) × (length w ≡ length w₀) × (w ≡ pass (lent table words rounds) n j m w₀)
+Inv-loop table words rounds n j w₀ m₀ w m = (m ≤ n) × (length w ≡ length w₀) × (w ≡ pass (oneTable table words rounds) n j m w₀)
 
 abbrev μ-loop : tie.MeasureT-loop
 μ-loop table words rounds n j w₀ m₀ w m = n - m
@@ -19,7 +19,7 @@ abbrev μ-loop : tie.MeasureT-loop
 loop-holds : tie.Need-loop-holds Inv-loop μ-loop
 loop-holds c =
     let a = c .before .args in
-    (omega arith, refl, pass-none (lent (a .table .now) (a .words .now) (a .rounds)) (a .n) (a .j) (a .w .now))
+    (omega arith, refl, pass-none (oneTable (a .table .now) (a .words .now) (a .rounds)) (a .n) (a .j) (a .w .now))
 
 add-i : tie.Need-add-i Inv-loop μ-loop
 add-i c = search needs
@@ -49,7 +49,7 @@ loop-again : tie.Need-loop-again Inv-loop μ-loop
 loop-again c =
     let l = c .before .before .before .before .before .loop in
     let a = c .before .before .before .before .before .before .before .args in
-    let k = lent (a .table .now) (a .words .now) (a .rounds) in (
+    let k = oneTable (a .table .now) (a .words .now) (a .rounds) in (
       omega arith,
       search needs,
       c .before .before .step .ensures ∙ ap (step k (a .n * a .j + (l .m + 1)) (l .m + 1)) (l .inv .2) ∙ sym (pass-more k (a .n) (a .j) (a .w .now) (l .m)),
@@ -63,7 +63,7 @@ returns c =
     let l = c .before .loop in
     let a = c .before .before .before .args in
     let e : l .m ≡ a .n = omega arith in
-    l .inv .2 ∙ ap (λ (x : ℕ). pass (lent (a .table .now) (a .words .now) (a .rounds)) (a .n) (a .j) x (a .w .now)) e
+    l .inv .2 ∙ ap (λ (x : ℕ). pass (oneTable (a .table .now) (a .words .now) (a .rounds)) (a .n) (a .j) x (a .w .now)) e
 
 pub pass-spec : {M : Type 1} → statement M
 pass-spec =

@@ -1,7 +1,7 @@
 use mathlib.Core.Path.{_≡_, refl, sym, ap, _∙_}
 use Prim.Native.Nat.{ℕ, _-_, _≤_}
 use lib.ListN.{length}
-use Rattle.wrap.specs.Lent.{lent}
+use Rattle.lookups.specs.Tables.{oneTable}
 use Rattle.wrap.specs.Wrap.{pass, passes}
 use Rattle.wrap.proofs.Passing.{passes-none, passes-more}
 use borrow.Author.Needs.{needs}
@@ -10,7 +10,7 @@ use Rattle.wrap.proofs.steps.passes.Statement.{statement}
 use Rattle.wrap.proofs.steps.passes.Tie as tie
 
 abbrev Inv-loop : tie.InvT-loop
-Inv-loop table words rounds n w₀ j₀ w j = (j ≤ 6) × (length w ≡ length w₀) × (w ≡ passes (lent table words rounds) n j w₀)
+Inv-loop table words rounds n w₀ j₀ w j = (j ≤ 6) × (length w ≡ length w₀) × (w ≡ passes (oneTable table words rounds) n j w₀)
 
 abbrev μ-loop : tie.MeasureT-loop
 μ-loop table words rounds n w₀ j₀ w j = 6 - j
@@ -18,7 +18,7 @@ abbrev μ-loop : tie.MeasureT-loop
 loop-holds : tie.Need-loop-holds Inv-loop μ-loop
 loop-holds c =
     let a = c .before .args in
-    (omega arith, refl, passes-none (lent (a .table .now) (a .words .now) (a .rounds)) (a .n) (a .w .now))
+    (omega arith, refl, passes-none (oneTable (a .table .now) (a .words .now) (a .rounds)) (a .n) (a .w .now))
 
 pass-requires : tie.Need-pass-requires Inv-loop μ-loop
 pass-requires c κs =
@@ -35,7 +35,7 @@ loop-again : tie.Need-loop-again Inv-loop μ-loop
 loop-again c =
     let l = c .before .before .before .before .before .loop in
     let a = c .before .before .before .before .before .before .before .args in
-    let k = lent (a .table .now) (a .words .now) (a .rounds) in (
+    let k = oneTable (a .table .now) (a .words .now) (a .rounds) in (
       omega arith,
       search needs,
       c .before .before .pass .ensures ∙ ap (pass k (a .n) (l .j) (a .n)) (l .inv .2) ∙ sym (passes-more k (a .n) (a .w .now) (l .j)),
@@ -49,7 +49,7 @@ returns c =
     let l = c .before .loop in
     let a = c .before .before .before .args in
     let e : l .j ≡ 6 = omega arith in
-    l .inv .2 ∙ ap (λ (x : ℕ). passes (lent (a .table .now) (a .words .now) (a .rounds)) (a .n) x (a .w .now)) e
+    l .inv .2 ∙ ap (λ (x : ℕ). passes (oneTable (a .table .now) (a .words .now) (a .rounds)) (a .n) x (a .w .now)) e
 
 pub passes-spec : {M : Type 1} → statement M
 passes-spec =

@@ -1,8 +1,7 @@
 use mathlib.Core.Path.{_≡_, ap, _∙_}
 use lib.ListN.{length}
-use Rattle.sbox.specs.Sbox.{entry}
-use Rattle.lookups.specs.Tables.{tableEncrypt}
-use Rattle.wrap.specs.Lent.{lent}
+use Rattle.octets.specs.Octets.{entry}
+use Rattle.lookups.specs.Tables.{tableEncrypt, oneTable}
 use Rattle.wrap.proofs.Passing.{step-by}
 use borrow.Author.Needs.{needs}
 use Rattle.wrap.proofs.steps.step.Statement.{statement}
@@ -31,7 +30,7 @@ returns c =
     let a = s .args in
     let n : length (e .result) ≡ 16 = search needs in
     b .ensures
-    ∙ step-by (lent (a .table .now) (a .words .now) (a .rounds)) (a .t) (a .i) (a .w .now) (e .result) (c .before .before .before .counted .result)
+    ∙ step-by (oneTable (a .table .now) (a .words .now) (a .rounds)) (a .t) (a .i) (a .w .now) (e .result) (c .before .before .before .counted .result)
     (e .ensures ∙ ap (tableEncrypt (entry (a .table .now)) (a .words .now) (a .rounds)) (c .before .before .before .before .before .before .pair .ensures)) n (c .before .before .before .counted .ensures)
 
 pub step-spec : {M : Type 1} → statement M

@@ -1,7 +1,7 @@
 use mathlib.Core.Path.{_≡_, refl, sym, ap, _∙_}
 use Prim.Native.Nat.{ℕ, _-_, _≤_}
 use lib.ListN.{length}
-use Rattle.wrap.specs.Lent.{lent}
+use Rattle.lookups.specs.Tables.{oneTable}
 use Rattle.wrap.specs.Wrap.{unpass}
 use Rattle.wrap.proofs.Sizes.{product-fits}
 use Rattle.wrap.proofs.Passing.{unpass-none, unpass-more}
@@ -11,7 +11,7 @@ use Rattle.wrap.proofs.steps.unpass.Statement.{statement}
 use Rattle.wrap.proofs.steps.unpass.Tie as tie
 
 abbrev Inv-loop : tie.InvT-loop
-Inv-loop table words rounds n j w₀ i₀ w i = (i ≤ n) × (length w ≡ length w₀) × (unpass (lent table words rounds) n j i w ≡ unpass (lent table words rounds) n j n w₀)
+Inv-loop table words rounds n j w₀ i₀ w i = (i ≤ n) × (length w ≡ length w₀) × (unpass (oneTable table words rounds) n j i w ≡ unpass (oneTable table words rounds) n j n w₀)
 
 abbrev μ-loop : tie.MeasureT-loop
 μ-loop table words rounds n j w₀ i₀ w i = i
@@ -44,7 +44,7 @@ loop-again : tie.Need-loop-again Inv-loop μ-loop
 loop-again c =
     let l = c .before .before .before .before .before .loop in
     let a = c .before .before .before .before .before .before .before .args in
-    let k = lent (a .table .now) (a .words .now) (a .rounds) in (
+    let k = oneTable (a .table .now) (a .words .now) (a .rounds) in (
       omega arith,
       search needs,
       ap (unpass k (a .n) (a .j) (l .i - 1)) (c .before .before .unstep .ensures) ∙ unpass-more k (a .n) (a .j) (l .w) (l .i) (omega arith) ∙ l .inv .2,
@@ -57,7 +57,7 @@ returns : tie.Need-returns Inv-loop μ-loop
 returns c =
     let l = c .before .loop in
     let a = c .before .before .before .args in
-    let k = lent (a .table .now) (a .words .now) (a .rounds) in
+    let k = oneTable (a .table .now) (a .words .now) (a .rounds) in
     let e : l .i ≡ 0 = omega arith in
     sym (unpass-none k (a .n) (a .j) (l .w)) ∙ ap (λ (x : ℕ). unpass k (a .n) (a .j) x (l .w)) (sym e) ∙ l .inv .2
 

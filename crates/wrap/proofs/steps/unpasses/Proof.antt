@@ -1,7 +1,7 @@
 use mathlib.Core.Path.{_≡_, refl, sym, ap, _∙_}
 use Prim.Native.Nat.{ℕ, _-_, _≤_}
 use lib.ListN.{length}
-use Rattle.wrap.specs.Lent.{lent}
+use Rattle.lookups.specs.Tables.{oneTable}
 use Rattle.wrap.specs.Wrap.{unpasses}
 use Rattle.wrap.proofs.Passing.{unpasses-none, unpasses-more}
 use borrow.Author.Needs.{needs}
@@ -10,7 +10,7 @@ use Rattle.wrap.proofs.steps.unpasses.Statement.{statement}
 use Rattle.wrap.proofs.steps.unpasses.Tie as tie
 
 abbrev Inv-loop : tie.InvT-loop
-Inv-loop table words rounds n w₀ j₀ w j = (j ≤ 6) × (length w ≡ length w₀) × (unpasses (lent table words rounds) n j w ≡ unpasses (lent table words rounds) n 6 w₀)
+Inv-loop table words rounds n w₀ j₀ w j = (j ≤ 6) × (length w ≡ length w₀) × (unpasses (oneTable table words rounds) n j w ≡ unpasses (oneTable table words rounds) n 6 w₀)
 
 abbrev μ-loop : tie.MeasureT-loop
 μ-loop table words rounds n w₀ j₀ w j = j
@@ -33,7 +33,7 @@ loop-again : tie.Need-loop-again Inv-loop μ-loop
 loop-again c =
     let l = c .before .before .before .before .before .loop in
     let a = c .before .before .before .before .before .before .before .args in
-    let k = lent (a .table .now) (a .words .now) (a .rounds) in (
+    let k = oneTable (a .table .now) (a .words .now) (a .rounds) in (
       omega arith,
       search needs,
       ap (unpasses k (a .n) (l .j - 1)) (c .before .before .unpass .ensures) ∙ unpasses-more k (a .n) (l .w) (l .j) (omega arith) ∙ l .inv .2,
@@ -46,7 +46,7 @@ returns : tie.Need-returns Inv-loop μ-loop
 returns c =
     let l = c .before .loop in
     let a = c .before .before .before .args in
-    let k = lent (a .table .now) (a .words .now) (a .rounds) in
+    let k = oneTable (a .table .now) (a .words .now) (a .rounds) in
     let e : l .j ≡ 0 = omega arith in
     sym (unpasses-none k (a .n) (l .w)) ∙ ap (λ (x : ℕ). unpasses k (a .n) x (l .w)) (sym e) ∙ l .inv .2
 

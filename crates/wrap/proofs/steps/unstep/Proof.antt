@@ -1,5 +1,5 @@
 use mathlib.Core.Path.{_∙_}
-use Rattle.wrap.specs.Lent.{lent}
+use Rattle.lookups.specs.Tables.{oneTable}
 use Rattle.wrap.proofs.Passing.{unstep-by}
 use native.Mathlib.Omega.{arith}
 use borrow.Author.Needs.{needs}
@@ -30,7 +30,7 @@ returns c =
     let s = c .before .before .before .before .before .before .before .before .before in
     let a = s .args in
     b .ensures
-    ∙ unstep-by (lent (a .table .now) (a .words .now) (a .rounds)) (a .t) (a .i) (a .w .now) (p .result) (x .result) (d .result) (omega (arith, s .pre .1)) (p .ensures) (x .ensures) (d .ensures)
+    ∙ unstep-by (oneTable (a .table .now) (a .words .now) (a .rounds)) (a .t) (a .i) (a .w .now) (p .result) (x .result) (d .result) (omega (arith, s .pre .1)) (p .ensures) (x .ensures) (d .ensures)
 
 pub unstep-spec : {M : Type 1} → statement M
 unstep-spec =

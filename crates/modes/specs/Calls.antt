@@ -1,0 +1,40 @@
+-- What a call of a mode answers and writes. Assumes nothing: these are definitions.
+use Prim.Native.Nat.{ℕ, _%_}
+use mathlib.Core.List.{List}
+use lib.Dec.{eqb, ltb}
+use lib.ListN.{length}
+use Rattle.octets.specs.Octets.{choose, over}
+use Rattle.sbox.specs.Sbox.{sBox}
+use Rattle.schedule.specs.Schedule.{scheduleOf, keyNumber}
+use Rattle.fips197.specs.Cipher.{aesOf}
+use Rattle.sp800_38a.specs.Modes.{ivLength, moded}
+use Rattle.sp800_38a.specs.declared.Operation.{Operation}
+use Rattle.modes.specs.declared.ModeAnswer.{ModeAnswer}
+use Rattle.modes.specs.declared.ModeAnswer.the-variants.{Done, BadKey, BadIv, NotPieces, OutputShort}
+
+-- document 01's number for each answer
+abbrev pub modeNumber : ModeAnswer → ℕ
+modeNumber Done = 0
+modeNumber BadKey = 1
+modeNumber BadIv = 2
+modeNumber NotPieces = 3
+modeNumber OutputShort = 4
+
+-- 1, 2, 3, 4, in that order, of the key's number, the IV's length and the one wanted, and the lengths of input and output
+unfoldable pub ruled : (key wanted iv inp out : ℕ) → ModeAnswer
+ruled key wanted iv inp out =
+    choose (eqb key 0)
+    (choose (eqb iv wanted)
+    (choose (eqb (inp % 16) 0)
+    (choose (ltb out inp) OutputShort Done) NotPieces) BadIv) BadKey
+
+unfoldable pub modeAnswer : Operation → (key iv inp out : List ℕ) → ModeAnswer
+modeAnswer o key iv inp out = ruled (keyNumber (scheduleOf sBox key .answer)) (ivLength 16 o) (length iv) (length inp) (length out)
+
+-- the output afterwards: what the operation makes of the input, and the rest as it was; after a refusal, as it was
+abbrev pub modeOutput : ModeAnswer → Operation → (key iv inp out : List ℕ) → List ℕ
+modeOutput Done o key iv inp out = over (moded 16 (aesOf key) o iv inp) out
+modeOutput BadKey o key iv inp out = out
+modeOutput BadIv o key iv inp out = out
+modeOutput NotPieces o key iv inp out = out
+modeOutput OutputShort o key iv inp out = out

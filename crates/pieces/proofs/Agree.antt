@@ -1,0 +1,171 @@
+-- A run over the tables of the standard is the operation over AES. Assumes nothing.
+use mathlib.Core.Path.{_≡_, refl, sym, ap, ap₂, _∙_}
+use mathlib.Core.Bool.{true, false, true≢false}
+use mathlib.Core.List.{List, [], _++_, append-nil}
+use mathlib.Core.Logic.{⊎-elim}
+use Prim.Native.Nat.{ℕ, zero, suc, _+_, _*_, _/_, _%_, _≤_, _<_}
+use native.Mathlib.Omega.{arith}
+use borrow.Author.Tests.{lt-ltb, le-ltb}
+use lib.ListN.{length, take, drop, drop-of-length-le}
+use lib.Seq.{take-all}
+use Rattle.octets.specs.Octets.{Bytes, Octets, over}
+use Rattle.octets.specs.Blocks.{_⊕_, BlockCipher, Lawful}
+use Rattle.octets.proofs.Xor.{lt-or-le}
+use Rattle.octets.proofs.Blocks.{⊕-octets}
+use Rattle.blocks.specs.Blocks.{blockAt}
+use Rattle.blocks.proofs.Laws.{block-at, block-octets}
+use Rattle.lookups.specs.Tables.{tableCipher, oneTable}
+use Rattle.lookups.proofs.Lawful.{Agree}
+use Rattle.sp800_38a.specs.Pieces.{made, after, pieceCount}
+use Rattle.sp800_38a.specs.Modes.{machine, inverts, ivLength, moded}
+use Rattle.sp800_38a.specs.declared.Operation.{Operation}
+use Rattle.sp800_38a.specs.declared.Operation.the-variants.{EcbEncrypt, EcbDecrypt, CbcEncrypt, CbcDecrypt, CfbEncrypt, CfbDecrypt, OfbEncrypt, OfbDecrypt}
+use Rattle.sp800_38a.proofs.Pieces.{made-same, after-same}
+use Rattle.sp800_38a.proofs.Undo.{ChainOf, keeps}
+use Rattle.sp800_38a.proofs.Sixteen.{whole-16, length-16}
+use Rattle.pieces.specs.Runs.{common, through}
+
+module _ (c d : BlockCipher) (a : Agree c d) where
+  out-same : (o : Operation) (st p : List ℕ) → ChainOf 16 o st → Octets 16 p → machine c o .out st p ≡ machine d o .out st p
+  out-same EcbEncrypt st p g h = a .enc-same p h
+  out-same EcbDecrypt st p g h = a .dec-same p h
+  out-same CbcEncrypt st p g h = a .enc-same (p ⊕ st) (⊕-octets h g)
+  out-same CbcDecrypt st p g h = ap (_⊕ st) (a .dec-same p h)
+  out-same CfbEncrypt st p g h = ap (p ⊕_) (a .enc-same st g)
+  out-same CfbDecrypt st p g h = ap (p ⊕_) (a .enc-same st g)
+  out-same OfbEncrypt st p g h = ap (p ⊕_) (a .enc-same st g)
+  out-same OfbDecrypt st p g h = ap (p ⊕_) (a .enc-same st g)
+
+  next-same : (o : Operation) (st p : List ℕ) → ChainOf 16 o st → Octets 16 p → machine c o .next st p ≡ machine d o .next st p
+  next-same EcbEncrypt st p g h = refl
+  next-same EcbDecrypt st p g h = refl
+  next-same CbcEncrypt st p g h = a .enc-same (p ⊕ st) (⊕-octets h g)
+  next-same CbcDecrypt st p g h = refl
+  next-same CfbEncrypt st p g h = ap (p ⊕_) (a .enc-same st g)
+  next-same CfbDecrypt st p g h = refl
+  next-same OfbEncrypt st p g h = a .enc-same st g
+  next-same OfbDecrypt st p g h = a .enc-same st g
+
+-- an operation uses the cipher one way only, so the table and the schedule of that way serve
+forward-only : (t b w v : List ℕ) (nr : ℕ) (o : Operation) → inverts o ≡ false → machine (oneTable t w nr) o ≡ machine (tableCipher t b w v nr) o
+forward-only t b w v nr EcbEncrypt e = refl
+forward-only t b w v nr EcbDecrypt e = absurd (true≢false e)
+forward-only t b w v nr CbcEncrypt e = refl
+forward-only t b w v nr CbcDecrypt e = absurd (true≢false e)
+forward-only t b w v nr CfbEncrypt e = refl
+forward-only t b w v nr CfbDecrypt e = refl
+forward-only t b w v nr OfbEncrypt e = refl
+forward-only t b w v nr OfbDecrypt e = refl
+
+backward-only : (t b w v : List ℕ) (nr : ℕ) (o : Operation) → inverts o ≡ true → machine (oneTable b v nr) o ≡ machine (tableCipher t b w v nr) o
+backward-only t b w v nr EcbEncrypt e = absurd (true≢false (sym e))
+backward-only t b w v nr EcbDecrypt e = refl
+backward-only t b w v nr CbcEncrypt e = absurd (true≢false (sym e))
+backward-only t b w v nr CbcDecrypt e = refl
+backward-only t b w v nr CfbEncrypt e = absurd (true≢false (sym e))
+backward-only t b w v nr CfbDecrypt e = absurd (true≢false (sym e))
+backward-only t b w v nr OfbEncrypt e = absurd (true≢false (sym e))
+backward-only t b w v nr OfbDecrypt e = absurd (true≢false (sym e))
+
+module _ (t b w v : List ℕ) (nr : ℕ) (o : Operation) (iv inp out : List ℕ) where
+  pub through-forward : inverts o ≡ false → through (oneTable t w nr) o iv inp out ≡ through (tableCipher t b w v nr) o iv inp out
+  unfolding through
+  through-forward e = rw (forward-only t b w v nr o e)
+
+  pub through-backward : inverts o ≡ true → through (oneTable b v nr) o iv inp out ≡ through (tableCipher t b w v nr) o iv inp out
+  unfolding through
+  through-backward e = rw (backward-only t b w v nr o e)
+
+-- ---- the IV
+
+-- ECB has no chaining value, so any serves
+ecb-any : (c : BlockCipher) (o : Operation) → ((st p : List ℕ) → machine c o .next st p ≡ st) → ((st st' p : List ℕ) → machine c o .out st p ≡ machine c o .out st' p)
+    → (st st' : List ℕ) (n : ℕ) (s : List ℕ) → made 16 (machine c o) st n s ≡ made 16 (machine c o) st' n s
+unfolding made
+ecb-any c o x y st st' zero s = refl
+ecb-any c o x y st st' (suc n) s =
+    ap₂ _++_ (y st st' (take 16 s))
+    (ap (λ (t : List ℕ). made 16 (machine c o) t n (drop 16 s)) (x st (take 16 s)) ∙ ecb-any c o x y st st' n (drop 16 s)
+    ∙ ap (λ (t : List ℕ). made 16 (machine c o) t n (drop 16 s)) (sym (x st' (take 16 s))))
+
+-- an IV of 16 bytes, loaded as a block
+loaded : (iv : List ℕ) → length iv ≡ 16 → blockAt iv 0 ≡ iv
+loaded iv e = block-at iv 0 (omega arith) ∙ take-all 16 iv (omega arith)
+
+pub iv-chain : (o : Operation) (iv : List ℕ) → length iv ≡ ivLength 16 o → Bytes iv → ChainOf 16 o (blockAt iv 0)
+iv-chain EcbEncrypt iv e b = tt
+iv-chain EcbDecrypt iv e b = tt
+iv-chain CbcEncrypt iv e b = block-octets iv 0 (omega arith) b
+iv-chain CbcDecrypt iv e b = block-octets iv 0 (omega arith) b
+iv-chain CfbEncrypt iv e b = block-octets iv 0 (omega arith) b
+iv-chain CfbDecrypt iv e b = block-octets iv 0 (omega arith) b
+iv-chain OfbEncrypt iv e b = block-octets iv 0 (omega arith) b
+iv-chain OfbDecrypt iv e b = block-octets iv 0 (omega arith) b
+
+pub iv-is-chain : (o : Operation) (iv : List ℕ) → length iv ≡ ivLength 16 o → Bytes iv → ChainOf 16 o iv
+iv-is-chain EcbEncrypt iv e b = tt
+iv-is-chain EcbDecrypt iv e b = tt
+iv-is-chain CbcEncrypt iv e b = record { size = e; bytes = b }
+iv-is-chain CbcDecrypt iv e b = record { size = e; bytes = b }
+iv-is-chain CfbEncrypt iv e b = record { size = e; bytes = b }
+iv-is-chain CfbDecrypt iv e b = record { size = e; bytes = b }
+iv-is-chain OfbEncrypt iv e b = record { size = e; bytes = b }
+iv-is-chain OfbDecrypt iv e b = record { size = e; bytes = b }
+
+module _ (c : BlockCipher) (iv : List ℕ) (n : ℕ) (s : List ℕ) where
+  block-iv : (o : Operation) → length iv ≡ 16 → made 16 (machine c o) (blockAt iv 0) n s ≡ made 16 (machine c o) iv n s
+  block-iv o e = ap (λ (x : List ℕ). made 16 (machine c o) x n s) (loaded iv e)
+
+  pub iv-same : (o : Operation) → length iv ≡ ivLength 16 o → made 16 (machine c o) (blockAt iv 0) n s ≡ made 16 (machine c o) iv n s
+  iv-same EcbEncrypt e = ecb-any c EcbEncrypt (λ st p. refl) (λ st st' p. refl) (blockAt iv 0) iv n s
+  iv-same EcbDecrypt e = ecb-any c EcbDecrypt (λ st p. refl) (λ st st' p. refl) (blockAt iv 0) iv n s
+  iv-same CbcEncrypt e = block-iv CbcEncrypt e
+  iv-same CbcDecrypt e = block-iv CbcDecrypt e
+  iv-same CfbEncrypt e = block-iv CfbEncrypt e
+  iv-same CfbDecrypt e = block-iv CfbDecrypt e
+  iv-same OfbEncrypt e = block-iv OfbEncrypt e
+  iv-same OfbDecrypt e = block-iv OfbDecrypt e
+
+-- ---- whole pieces
+
+-- the pieces that both have are the input's, where the output is as long
+common-all : (a b : ℕ) → a % 16 ≡ 0 → a ≤ b → common a b ≡ (a + 15) / 16
+unfolding common
+common-all a b h l = ⊎-elim shorter equal (lt-or-le a b)
+  where
+    shorter : a < b → common a b ≡ (a + 15) / 16
+    shorter k = rw (lt-ltb a b k) (omega arith)
+
+    equal : b ≤ a → common a b ≡ (a + 15) / 16
+    equal k = rw (le-ltb a b k) (omega arith)
+
+-- a run whose input and output are as long, and whole pieces: the operation, whatever the cipher
+pub through-whole : (c : BlockCipher) (o : Operation) (iv inp out : List ℕ) → length inp % 16 ≡ 0 → length inp ≡ length out
+    → through c o iv inp out ≡ (after 16 (machine c o) iv (pieceCount 16 inp) inp, moded 16 c o iv inp)
+unfolding through
+through-whole c o iv inp out h e =
+    let n = (length inp + 15) / 16 in
+    let k = common-all (length inp) (length out) h (omega arith) in
+    let z : drop (n * 16) out ≡ [] = drop-of-length-le out {i = n * 16} (omega arith) in
+    rw (k, z, append-nil (made 16 (machine c o) iv n inp))
+
+module _ (c d : BlockCipher) (a : Agree c d) (l : Lawful 16 d) (o : Operation) (st inp : List ℕ) (g : ChainOf 16 o st) (b : Bytes inp) (h : length inp % 16 ≡ 0) where
+  -- the operation over either cipher
+  pub moded-same : moded 16 c o st inp ≡ moded 16 d o st inp
+  moded-same =
+      made-same 16 (machine d o) (ChainOf 16 o) (Octets 16) (keeps 16 d l o) (machine c o) (out-same c d a o) (next-same c d a o) (pieceCount 16 inp) st inp g
+      (whole-16 d l o st inp g b h)
+
+  handed-same : after 16 (machine c o) st (pieceCount 16 inp) inp ≡ after 16 (machine d o) st (pieceCount 16 inp) inp
+  handed-same =
+      after-same 16 (machine d o) (ChainOf 16 o) (Octets 16) (keeps 16 d l o) (machine c o) (next-same c d a o) (pieceCount 16 inp) st inp g
+      (whole-16 d l o st inp g b h)
+
+  -- a run over one cipher is the operation over the other, over the front of the output
+  pub through-mode : (out : List ℕ) → length inp ≤ length out
+      → through c o st inp out ≡ (after 16 (machine d o) st (pieceCount 16 inp) inp, over (moded 16 d o st inp) out)
+  unfolding through
+  through-mode out r =
+      let n = (length inp + 15) / 16 in
+      let k : n * 16 ≡ length inp = omega arith in
+      rw (common-all (length inp) (length out) h r, handed-same, moded-same, length-16 d l o st inp g b h, k)

@@ -1,0 +1,36 @@
+-- Two steps of a machine as the code has them; and a run through the pieces that two lists have in common.
+-- Assumes nothing: these are definitions.
+use Prim.Native.Nat.{ℕ, _/_}
+use mathlib.Core.Bool.{Bool, true, false}
+use mathlib.Core.List.{List}
+use lib.Dec.{ltb}
+use lib.ListN.{length}
+use Rattle.octets.specs.Octets.{choose}
+use Rattle.octets.specs.Blocks.{BlockCipher}
+use Rattle.sp800_38a.specs.Pieces.{Machine, ran}
+use Rattle.sp800_38a.specs.Modes.{machine}
+use Rattle.sp800_38a.specs.declared.Operation.{Operation}
+use Rattle.sp800_38a.specs.declared.Operation.the-variants.{EcbEncrypt, EcbDecrypt, CbcEncrypt, CbcDecrypt, CfbEncrypt, CfbDecrypt, OfbEncrypt, OfbDecrypt}
+use Rattle.pieces.specs.declared.pairs.SteppedTwo.{SteppedTwo}
+
+abbrev pub stepsOf : Machine → List ℕ → List ℕ → List ℕ → SteppedTwo
+stepsOf m st p q = record { first = m .out st p; second = m .out (m .next st p) q; next = m .next (m .next st p) q }
+
+-- whether the second of two pieces needs nothing that the cipher makes of the first
+abbrev pub goesInPairs : Operation → Bool
+goesInPairs EcbEncrypt = true
+goesInPairs EcbDecrypt = true
+goesInPairs CbcEncrypt = false
+goesInPairs CbcDecrypt = true
+goesInPairs CfbEncrypt = false
+goesInPairs CfbDecrypt = true
+goesInPairs OfbEncrypt = false
+goesInPairs OfbDecrypt = false
+
+-- how many whole pieces fit both lengths
+unfoldable pub common : ℕ → ℕ → ℕ
+common a b = choose (ltb a b) (a / 16) (b / 16)
+
+-- a run through them: what a piece after them is chained to, and the output afterwards
+unfoldable pub through : BlockCipher → Operation → (iv inp out : List ℕ) → List ℕ × List ℕ
+through c o iv inp out = ran 16 (machine c o) iv (common (length inp) (length out)) inp out

@@ -1,0 +1,68 @@
+// Pieces of 16 bytes through an operation of a mode, with the table and the schedule lent that it looks up in:
+// those of the inverse cipher where it inverts, of the cipher elsewhere.
+mod pairs;
+
+use crate::pairs::goes_in_pairs;
+use crate::pairs::in_pairs;
+use blocks::load;
+use blocks::store;
+use sp800_38a::Operation;
+use steps::step;
+ghost use mathlib.Core.Path.{_≡_};
+ghost use Prim.Native.Nat.{_*_, _≤_};
+ghost use lib.ListN.{length};
+ghost use Rattle.lookups.specs.Tables.{oneTable};
+ghost use Rattle.sp800_38a.specs.Pieces.{ran};
+ghost use Rattle.sp800_38a.specs.Modes.{machine};
+ghost use Rattle.pieces.specs.Runs.{common, through};
+
+// The whole pieces that input and output have in common; the answer is what a piece after them is chained to.
+pub fn run(
+    table: &[u32; 256],
+    words: &[u32; 60],
+    rounds: usize,
+    operation: Operation,
+    iv: [u8; 16],
+    input: &[u8],
+    output: &mut [u8],
+) -> [u8; 16]
+    ensures { λ r. ⌜ (r, now (output .exit)) ≡ through (oneTable (now (table .entry)) (now (words .entry)) rounds) operation iv (now (input .entry)) (now (output .entry)) ⌝ }
+{
+    let n = in_common(input.len(), output.len());
+    if goes_in_pairs(operation) {
+        return in_pairs(table, words, rounds, operation, iv, n, input, output);
+    }
+    in_order(table, words, rounds, operation, iv, n, input, output)
+}
+
+// The first n pieces, one after the other.
+fn in_order(
+    table: &[u32; 256],
+    words: &[u32; 60],
+    rounds: usize,
+    operation: Operation,
+    iv: [u8; 16],
+    n: usize,
+    input: &[u8],
+    output: &mut [u8],
+) -> [u8; 16]
+    requires { ⌜ (n * 16 ≤ length (now input)) × (n * 16 ≤ length (now output)) ⌝ }
+    ensures { λ r. ⌜ (r, now (output .exit)) ≡ ran 16 (machine (oneTable (now (table .entry)) (now (words .entry)) rounds) operation) iv n (now (input .entry)) (now (output .entry)) ⌝ }
+{
+    let mut chain = iv;
+    for i in 0..n {
+        let s = step(table, words, rounds, operation, chain, load(input, i * 16));
+        let out = s.out;
+        let next = s.next;
+        store(output, i * 16, out);
+        chain = next;
+    }
+    chain
+}
+
+// How many whole pieces fit both lengths.
+fn in_common(a: usize, b: usize) -> usize
+    ensures { λ r. ⌜ r ≡ common a b ⌝ }
+{
+    if a < b { a / 16 } else { b / 16 }
+}

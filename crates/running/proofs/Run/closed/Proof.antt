@@ -1,0 +1,22 @@
+use mathlib.Core.Path.{_∙_}
+use Rattle.sp800_38b.specs.Cmac.{ended}
+use Rattle.running.specs.Running as running
+use borrow.Author.Needs.{needs}
+use Rattle.running.proofs.Run.closed.Statement.{statement}
+use Rattle.running.proofs.Run.closed.Tie as tie
+
+last-requires : tie.Need-last-requires
+last-requires c κs = search needs
+
+xor-requires : tie.Need-xor-requires
+xor-requires c κs = search needs
+
+encrypt-block-requires : tie.Need-encrypt-block-requires
+encrypt-block-requires c κs = search needs
+
+returns : tie.Need-returns
+unfolding running.closed ended
+returns c = c .encrypt-block .ensures ∙ rw (c .before .xor .ensures, c .before .before .last .ensures)
+
+pub closed-spec : {M : Type 1} → statement M
+closed-spec = tie.close (tie.spec last-requires xor-requires encrypt-block-requires returns)

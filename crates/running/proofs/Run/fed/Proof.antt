@@ -1,0 +1,73 @@
+use mathlib.Core.Path.{_≡_, _∙_}
+use Prim.Native.Nat.{_-_}
+use denote.Ref.{now}
+use lib.ListN.{length}
+use Rattle.lookups.specs.Tables.{oneTable}
+use Rattle.sp800_38b.proofs.Filling.{to-end}
+use Rattle.running.proofs.Laws.{fed-room, fed-over}
+use borrow.Author.Needs.{needs}
+use Rattle.running.proofs.Run.fed.Statement.{statement}
+use Rattle.running.proofs.Run.fed.Tie as tie
+
+room-after-requires : tie.Need-room-after-requires
+room-after-requires c κs = search needs
+
+filled-requires : tie.Need-filled-requires
+filled-requires c κs = search needs
+
+sub-t13 : tie.Need-sub-t13
+sub-t13 c = search needs
+
+add-t15 : tie.Need-add-t15
+add-t15 c = search needs
+
+returns : tie.Need-returns
+returns c =
+    let s = c .before .before .before .before .before .before in
+    let x = s .args .self in
+    let size : length (x .held) ≡ 16 = search needs in
+    rw (c .before .filled .ensures, c .before .before .room-after .ensures)
+    (fed-room (x .held) size (oneTable (now (s .args .table)) (now (s .args .words)) (s .args .rounds)) (x .chain) (x .count) (now (s .args .part)) (search needs))
+
+xor-requires : tie.Need-xor-requires
+xor-requires c κs = search needs
+
+encrypt-block-requires : tie.Need-encrypt-block-requires
+encrypt-block-requires c κs = search needs
+
+sub-taken-in : tie.Need-sub-taken-in
+sub-taken-in c = search needs
+
+part-taken-in-start : tie.Need-part-taken-in-start
+part-taken-in-start c = search needs
+
+part-taken-in-end : tie.Need-part-taken-in-end
+part-taken-in-end c = search needs
+
+taken-in-requires : tie.Need-taken-in-requires
+taken-in-requires c κs = search needs
+
+returns-2 : tie.Need-returns-2
+returns-2 c =
+    let s = c .before .before .before .before .before .before .before .before .before .before in
+    let x = s .args .self in
+    let size : length (x .held) ≡ 16 = search needs in
+    c .taken-in .ensures ∙ rw (c .before .before .encrypt-block .ensures, c .before .before .before .xor .ensures, c .before .before .before .before .before .filled .ensures, c .before .before .before .before .before .before .room-after .ensures, to-end (now (s .args .part)) (16 - x .count))
+    (fed-over (x .held) size (oneTable (now (s .args .table)) (now (s .args .words)) (s .args .rounds)) (x .chain) (x .count) (now (s .args .part)) (search needs))
+
+pub fed-spec : {M : Type 1} → statement M
+fed-spec =
+    tie.close
+    (tie.spec
+    room-after-requires
+    filled-requires
+    sub-t13
+    add-t15
+    returns
+    xor-requires
+    encrypt-block-requires
+    sub-taken-in
+    part-taken-in-start
+    part-taken-in-end
+    taken-in-requires
+    returns-2)

@@ -1,0 +1,5 @@
+pub mod Pieces
+pub mod Joining
+pub mod Undo
+pub mod Sixteen
+pub mod Equations

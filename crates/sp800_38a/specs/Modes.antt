@@ -1,0 +1,56 @@
+-- The modes of SP 800-38A, section 6, over any block cipher of z bytes. Assumes nothing: these are definitions.
+use Prim.Native.Nat.{ℕ}
+use mathlib.Core.List.{List}
+use mathlib.Core.Bool.{Bool, true, false}
+use Rattle.octets.specs.Blocks.{_⊕_, BlockCipher}
+use Rattle.sp800_38a.specs.Pieces.{Machine, made, pieceCount}
+use Rattle.sp800_38a.specs.declared.Operation.{Operation}
+use Rattle.sp800_38a.specs.declared.Operation.the-variants.{EcbEncrypt, EcbDecrypt, CbcEncrypt, CbcDecrypt, CfbEncrypt, CfbDecrypt, OfbEncrypt, OfbDecrypt}
+
+-- of the chaining value st and the piece p: the block that comes out, and the next chaining value (6.1, 6.2, 6.3 with s = b, 6.4)
+abbrev pub machine : BlockCipher → Operation → Machine
+machine c EcbEncrypt = record { out = λ st p. c .enc p; next = λ st p. st }
+machine c EcbDecrypt = record { out = λ st p. c .dec p; next = λ st p. st }
+machine c CbcEncrypt = record { out = λ st p. c .enc (p ⊕ st); next = λ st p. c .enc (p ⊕ st) }
+machine c CbcDecrypt = record { out = λ st p. c .dec p ⊕ st; next = λ st p. p }
+machine c CfbEncrypt = record { out = λ st p. p ⊕ c .enc st; next = λ st p. p ⊕ c .enc st }
+machine c CfbDecrypt = record { out = λ st p. p ⊕ c .enc st; next = λ st p. p }
+machine c OfbEncrypt = record { out = λ st p. p ⊕ c .enc st; next = λ st p. c .enc st }
+machine c OfbDecrypt = record { out = λ st p. p ⊕ c .enc st; next = λ st p. c .enc st }
+
+-- the operation that undoes another
+abbrev pub other : Operation → Operation
+other EcbEncrypt = EcbDecrypt
+other EcbDecrypt = EcbEncrypt
+other CbcEncrypt = CbcDecrypt
+other CbcDecrypt = CbcEncrypt
+other CfbEncrypt = CfbDecrypt
+other CfbDecrypt = CfbEncrypt
+other OfbEncrypt = OfbDecrypt
+other OfbDecrypt = OfbEncrypt
+
+-- whether an operation uses the inverse cipher
+abbrev pub inverts : Operation → Bool
+inverts EcbEncrypt = false
+inverts EcbDecrypt = true
+inverts CbcEncrypt = false
+inverts CbcDecrypt = true
+inverts CfbEncrypt = false
+inverts CfbDecrypt = false
+inverts OfbEncrypt = false
+inverts OfbDecrypt = false
+
+-- how long the IV is: none in ECB, a block in the others (5.3)
+abbrev pub ivLength : ℕ → Operation → ℕ
+ivLength z EcbEncrypt = 0
+ivLength z EcbDecrypt = 0
+ivLength z CbcEncrypt = z
+ivLength z CbcDecrypt = z
+ivLength z CfbEncrypt = z
+ivLength z CfbDecrypt = z
+ivLength z OfbEncrypt = z
+ivLength z OfbDecrypt = z
+
+-- an operation over a list of bytes
+abbrev pub moded : ℕ → BlockCipher → Operation → List ℕ → List ℕ → List ℕ
+moded z c o iv s = made z (machine c o) iv (pieceCount z s) s

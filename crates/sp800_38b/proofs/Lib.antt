@@ -1,0 +1,4 @@
+pub mod Chain
+pub mod Filling
+pub mod OnePiece
+pub mod Same

@@ -1,0 +1,77 @@
+// One piece of 16 bytes through an operation of a mode, with the table and the schedule lent that it looks up in:
+// those of the inverse cipher where it inverts, of the cipher elsewhere.
+use blocks::xor;
+use rounds::decrypt_block;
+use rounds::encrypt_block;
+use sp800_38a::Operation;
+ghost use mathlib.Core.Path.{_≡_};
+ghost use Rattle.lookups.specs.Tables.{oneTable};
+ghost use Rattle.sp800_38a.specs.Modes.{machine};
+ghost use Rattle.steps.specs.Step.{stepOf};
+
+// What comes out of a piece, and what the next piece is chained to.
+pub struct Stepped {
+    pub out: [u8; 16],
+    pub next: [u8; 16],
+}
+
+// SP 800-38A's equations, an operation each.
+pub fn step(
+    table: &[u32; 256],
+    words: &[u32; 60],
+    rounds: usize,
+    operation: Operation,
+    chain: [u8; 16],
+    piece: [u8; 16],
+) -> Stepped
+    ensures { λ r. ⌜ r ≡ stepOf (machine (oneTable (now (table .entry)) (now (words .entry)) rounds) operation) chain piece ⌝ }
+{
+    match operation {
+        Operation::EcbEncrypt => {
+            let out = encrypt_block(table, words, rounds, piece);
+            Stepped { out, next: chain }
+        }
+        Operation::EcbDecrypt => {
+            let out = decrypt_block(table, words, rounds, piece);
+            Stepped { out, next: chain }
+        }
+        Operation::CbcEncrypt => {
+            let block = encrypt_block(table, words, rounds, xor(piece, chain));
+            Stepped {
+                out: block,
+                next: block,
+            }
+        }
+        Operation::CbcDecrypt => {
+            let out = xor(decrypt_block(table, words, rounds, piece), chain);
+            Stepped { out, next: piece }
+        }
+        Operation::CfbEncrypt => {
+            let segment = xor(piece, encrypt_block(table, words, rounds, chain));
+            Stepped {
+                out: segment,
+                next: segment,
+            }
+        }
+        Operation::CfbDecrypt => {
+            let out = xor(piece, encrypt_block(table, words, rounds, chain));
+            Stepped { out, next: piece }
+        }
+        Operation::OfbEncrypt => {
+            let output_block = encrypt_block(table, words, rounds, chain);
+            let ciphertext = xor(piece, output_block);
+            Stepped {
+                out: ciphertext,
+                next: output_block,
+            }
+        }
+        Operation::OfbDecrypt => {
+            let key_stream = encrypt_block(table, words, rounds, chain);
+            let plaintext = xor(piece, key_stream);
+            Stepped {
+                out: plaintext,
+                next: key_stream,
+            }
+        }
+    }
+}
