@@ -3,6 +3,7 @@ use rounds::decrypt_block;
 use rounds::encrypt_block;
 use schedule::KeyAnswer;
 use schedule::KeySchedule;
+use schedule::RoundKeyNumber;
 use schedule::is_round_count;
 use tables::forward_table;
 use tables::inverse_table;
@@ -79,7 +80,9 @@ fn inverse_word(words: &[u32; 60], rounds: usize, i: usize) -> u32
     if rounds < n {
         return 0;
     }
-    let word = words[4 * (rounds - n) + (4 - i % 4) % 4];
+    let first = RoundKeyNumber(rounds - n).first_word();
+    let at = first.0 + (4 - i % 4) % 4;
+    let word = words[at];
     if n == 0 {
         return word;
     }

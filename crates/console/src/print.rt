@@ -35,12 +35,7 @@ pub fn number_bytes(n: u64, bytes: &[u8], text: &mut [u8], at: usize) -> usize {
 
 // A word as eight hex digits, the high byte first.
 fn word(x: u32, text: &mut [u8], at: usize) -> usize {
-    let b = [
-        (x / 16777216 % 256) as u8,
-        (x / 65536 % 256) as u8,
-        (x / 256 % 256) as u8,
-        (x % 256) as u8,
-    ];
+    let b = words::word_bytes(x);
     places::put_hex(&b, text, at)
 }
 

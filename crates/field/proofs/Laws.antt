@@ -61,11 +61,6 @@ double-xor a b ha hb =
     ∙ xor-medial (a * 2 % 256) (b * 2 % 256) (a / 128 * 27) (b / 128 * 27)
     ∙ ap₂ xor (sym (double-parts a ha)) (sym (double-parts b hb))
 
-pub power-lt : (n : ℕ) → xPower n < 256
-unfolding xPower
-power-lt zero = omega arith
-power-lt (suc n) = double-lt (power-lt n)
-
 pub power-more : (n : ℕ) → xPower (n + 1) ≡ xTimes (xPower n)
 unfolding xPower
 power-more n = rw (add-one n)

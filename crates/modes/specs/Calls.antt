@@ -12,7 +12,7 @@ use Rattle.sp800_38a.specs.declared.Operation.{Operation}
 use Rattle.modes.specs.declared.ModeAnswer.{ModeAnswer}
 use Rattle.modes.specs.declared.ModeAnswer.the-variants.{Done, BadKey, BadIv, NotPieces, OutputShort}
 
--- document 01's number for each answer
+-- the number of each answer (docs/REFUSALS.md)
 abbrev pub modeNumber : ModeAnswer → ℕ
 modeNumber Done = 0
 modeNumber BadKey = 1

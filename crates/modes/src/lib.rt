@@ -13,7 +13,7 @@ ghost use Rattle.tables.specs.Tables.{forwardTable, inverseTable};
 ghost use Rattle.sp800_38a.specs.Modes.{ivLength};
 ghost use Rattle.sp800_38a.specs.Modes as standard;
 ghost use Rattle.pieces.specs.Runs.{through};
-ghost use Rattle.modes.specs.Calls.{ruled, modeAnswer, modeOutput};
+ghost use Rattle.modes.specs.Calls.{modeNumber, ruled, modeAnswer, modeOutput};
 
 pub enum ModeAnswer {
     Done,
@@ -21,6 +21,20 @@ pub enum ModeAnswer {
     BadIv,
     NotPieces,
     OutputShort,
+}
+
+impl ModeAnswer {
+    pub fn number(self) -> u32
+        ensures { λ r. ⌜ r ≡ modeNumber self ⌝ }
+    {
+        match self {
+            ModeAnswer::Done => 0,
+            ModeAnswer::BadKey => 1,
+            ModeAnswer::BadIv => 2,
+            ModeAnswer::NotPieces => 3,
+            ModeAnswer::OutputShort => 4,
+        }
+    }
 }
 
 // Encrypts or decrypts the input under a key; the IV is empty in ECB and 16 bytes in the others.

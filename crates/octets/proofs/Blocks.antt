@@ -9,12 +9,6 @@ use Rattle.octets.specs.Octets.{Bytes, Octets}
 use Rattle.octets.specs.Blocks.{_⊕_}
 use Rattle.octets.proofs.Xor.{xor-assoc, xor-comm, xor-undo, xor-lt}
 
-pub ⊕-assoc : (a b c : List ℕ) → (a ⊕ b) ⊕ c ≡ a ⊕ (b ⊕ c)
-⊕-assoc [] b c = refl
-⊕-assoc (x ∷ a) [] c = refl
-⊕-assoc (x ∷ a) (y ∷ b) [] = refl
-⊕-assoc (x ∷ a) (y ∷ b) (z ∷ c) = ap₂ _∷_ (xor-assoc x y z) (⊕-assoc a b c)
-
 pub ⊕-comm : (a b : List ℕ) → a ⊕ b ≡ b ⊕ a
 ⊕-comm [] [] = refl
 ⊕-comm [] (y ∷ b) = refl

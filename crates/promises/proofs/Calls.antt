@@ -20,8 +20,10 @@ use Rattle.words.proofs.inv_mix_column.Reads as inv-mix-column
 use Rattle.words.proofs.spun.Reads as spun
 use Rattle.words.proofs.middles.Reads as middles
 use Rattle.schedule.proofs.KeySchedule.new.Reads as new
-use Rattle.schedule.proofs.KeySchedule.with.Reads as with
 use Rattle.schedule.proofs.is_round_count.Reads as is-round-count
+use Rattle.words.proofs.word_bytes.Reads as word-bytes
+use Rattle.schedule.proofs.KeyAnswer.number.Reads as key-number
+use Rattle.schedule.proofs.RoundKeyNumber.first_word.Reads as first-word
 use Rattle.tables.proofs.forward_table.Reads as forward-table
 use Rattle.tables.proofs.inverse_table.Reads as inverse-table
 use Rattle.states.proofs.load.Reads as load-state
@@ -110,12 +112,6 @@ new-asks-nothing κs a = tt
 pub new-determined : (κs : _) (a : _) (r r′ : _) (s s′ : _) → new.Post κs a r s → new.Post κs a r′ s′ → r ≡ r′
 new-determined κs a r r′ s s′ p q = p ∙ sym q
 
-pub with-asks-nothing : (κs : _) (a : _) → with.Asked κs a
-with-asks-nothing κs a = tt
-
-pub with-determined : (κs : _) (a : _) (r r′ : _) (s s′ : _) → with.Post κs a r s → with.Post κs a r′ s′ → r ≡ r′
-with-determined κs a r r′ s s′ p q = p ∙ sym q
-
 pub forward-table-asks-nothing : (κs : _) (a : _) → forward-table.Asked κs a
 forward-table-asks-nothing κs a = tt
 
@@ -169,6 +165,24 @@ mix-columns-asks-nothing κs a = tt
 
 pub mix-columns-determined : (κs : _) (a : _) (r r′ : _) (s s′ : _) → mix-columns.Post κs a r s → mix-columns.Post κs a r′ s′ → r ≡ r′
 mix-columns-determined κs a r r′ s s′ p q = p ∙ sym q
+
+pub word-bytes-asks-nothing : (κs : _) (a : _) → word-bytes.Asked κs a
+word-bytes-asks-nothing κs a = tt
+
+pub word-bytes-determined : (κs : _) (a : _) (r r′ : _) (s s′ : _) → word-bytes.Post κs a r s → word-bytes.Post κs a r′ s′ → r ≡ r′
+word-bytes-determined κs a r r′ s s′ p q = p ∙ sym q
+
+pub key-number-asks-nothing : (κs : _) (a : _) → key-number.Asked κs a
+key-number-asks-nothing κs a = tt
+
+pub key-number-determined : (κs : _) (a : _) (r r′ : _) (s s′ : _) → key-number.Post κs a r s → key-number.Post κs a r′ s′ → r ≡ r′
+key-number-determined κs a r r′ s s′ p q = p ∙ sym q
+
+pub first-word-asks-nothing : (κs : _) (a : _) → first-word.Asked κs a
+first-word-asks-nothing κs a = tt
+
+pub first-word-determined : (κs : _) (a : _) (r r′ : _) (s s′ : _) → first-word.Post κs a r s → first-word.Post κs a r′ s′ → r .0 ≡ r′ .0
+first-word-determined κs a r r′ s s′ p q = p ∙ sym q
 
 pub encrypt-asks-nothing : (κs : _) (a : _) → encrypt.Asked κs a
 encrypt-asks-nothing κs a = tt

@@ -1,5 +1,6 @@
--- Which keys are taken. Assumes nothing.
-use mathlib.Core.Path.{_≡_, refl}
+-- Which keys are taken, and that the calls which can refuse a key alone do so exactly then. Assumes nothing.
+use mathlib.Core.Path.{_≡_, refl, sym, ap, subst, _∙_}
+use denote.Ref.{now}
 use mathlib.Core.Bool.{Bool, true, false}
 use mathlib.Core.List.{List}
 use mathlib.Core.Logic.{_⊎_, inl, inr, ⊎-elim}
@@ -12,6 +13,18 @@ use Rattle.octets.specs.Octets.{choose}
 use Rattle.sbox.specs.Sbox.{sBox}
 use Rattle.schedule.specs.Schedule.{taken, refused, scheduleOf, keyNumber}
 use Rattle.schedule.specs.declared.Expanded.{Expanded}
+use Rattle.schedule.specs.declared.KeyAnswer.{KeyAnswer}
+use Rattle.schedule.specs.declared.KeyAnswer.the-variants.{Taken, KeyLength}
+use Rattle.cipher.specs.Calls.{encryptUnder, decryptUnder}
+use Rattle.cipher.specs.declared.Ciphered.{Ciphered}
+use Rattle.cmac.specs.Calls.{checkOf, startOf}
+use Rattle.cmac.specs.declared.Checked.{Checked}
+use Rattle.cmac.specs.declared.Started.{Started}
+use Rattle.schedule.proofs.KeySchedule.new.Reads as new
+use Rattle.cipher.proofs.encrypt.Reads as encrypt
+use Rattle.cipher.proofs.decrypt.Reads as decrypt
+use Rattle.cmac.proofs.check.Reads as check
+use Rattle.cmac.proofs.start.Reads as start
 
 -- the key schedule takes the key
 abbrev pub KeyTaken : List ℕ → Type 0
@@ -20,18 +33,89 @@ KeyTaken key = keyNumber (scheduleOf sBox key .answer) ≡ 0
 made : List ℕ → Bool → Bool → Bool → Expanded
 made key a b c = choose a (taken sBox key 4 10) (choose b (taken sBox key 6 12) (choose c (taken sBox key 8 14) refused))
 
--- a key is taken exactly if it has 16, 24 or 32 bytes
-pub a-taken-key-has-a-size : (key : List ℕ) → KeyTaken key → (length key ≡ 16) ⊎ ((length key ≡ 24) ⊎ (length key ≡ 32))
+-- 16, 24 or 32
+abbrev pub KeySize : ℕ → Type 0
+KeySize n = (n ≡ 16) ⊎ ((n ≡ 24) ⊎ (n ≡ 32))
+
+-- a key is taken exactly if it has so many bytes
+pub a-taken-key-has-a-size : (key : List ℕ) → KeyTaken key → KeySize (length key)
 unfolding scheduleOf taken refused made
 a-taken-key-has-a-size key = each (eqb (length key) 16) (eqb (length key) 24) (eqb (length key) 32) refl refl refl
   where
     each : (a b c : Bool) → eqb (length key) 16 ≡ a → eqb (length key) 24 ≡ b → eqb (length key) 32 ≡ c
-        → keyNumber (made key a b c .answer) ≡ 0 → (length key ≡ 16) ⊎ ((length key ≡ 24) ⊎ (length key ≡ 32))
+        → keyNumber (made key a b c .answer) ≡ 0 → KeySize (length key)
     each true b c e f g h = inl (eqb-true _ _ e)
     each false true c e f g h = inr (inl (eqb-true _ _ f))
     each false false true e f g h = inr (inr (eqb-true _ _ g))
     each false false false e f g h = absurd (omega arith)
 
-pub a-key-of-a-size-is-taken : (key : List ℕ) → (length key ≡ 16) ⊎ ((length key ≡ 24) ⊎ (length key ≡ 32)) → KeyTaken key
+pub a-key-of-a-size-is-taken : (key : List ℕ) → KeySize (length key) → KeyTaken key
 unfolding scheduleOf taken refused
 a-key-of-a-size-is-taken key = ⊎-elim (λ e. rw e) (⊎-elim (λ e. rw e) (λ e. rw e))
+
+-- ---- the calls that refuse a key, and nothing else
+
+-- what each answer says
+abbrev pub KeySays : ℕ → KeyAnswer → Type 0
+KeySays n Taken = KeySize n
+KeySays n KeyLength = KeySize n → ⊥
+
+key-says : (key : List ℕ) → KeySays (length key) (scheduleOf sBox key .answer)
+key-says key = each (scheduleOf sBox key .answer) refl
+  where
+    each : (r : KeyAnswer) → scheduleOf sBox key .answer ≡ r → KeySays (length key) r
+    each Taken e = a-taken-key-has-a-size key (ap keyNumber e)
+    each KeyLength e = λ h. let z = a-key-of-a-size-is-taken key h in let y : keyNumber (scheduleOf sBox key .answer) ≡ 1 = ap keyNumber e in omega arith
+
+module _ (key : List ℕ) (r : KeyAnswer) (p : r ≡ scheduleOf sBox key .answer) where
+  told : KeySays (length key) r
+  told = subst (KeySays (length key)) (sym p) (key-says key)
+
+  taken-then : KeySize (length key) → keyNumber r ≡ 0
+  taken-then h = ap keyNumber p ∙ a-key-of-a-size-is-taken key h
+
+pub schedule-as-told : (κs : _) (a : _) (r : _) (s : _) → new.Post κs a r s → KeySays (length (now (a .0))) (r .answer)
+schedule-as-told κs a r s p = told (now (a .0)) (r .answer) (ap (λ (x : Expanded). x .answer) p)
+
+pub schedule-done : (κs : _) (a : _) (r : _) (s : _) → new.Post κs a r s → KeySize (length (now (a .0))) → keyNumber (r .answer) ≡ 0
+schedule-done κs a r s p = taken-then (now (a .0)) (r .answer) (ap (λ (x : Expanded). x .answer) p)
+
+encrypt-answer : (key b : List ℕ) → encryptUnder key b .answer ≡ scheduleOf sBox key .answer
+unfolding encryptUnder
+encrypt-answer key b = refl
+
+pub encrypt-as-told : (κs : _) (a : _) (r : _) (s : _) → encrypt.Post κs a r s → KeySays (length (now (a .0))) (r .answer)
+encrypt-as-told κs a r s p = told (now (a .0)) (r .answer) (ap (λ (x : Ciphered). x .answer) p ∙ encrypt-answer (now (a .0)) (a .1 .0))
+
+pub encrypt-done : (κs : _) (a : _) (r : _) (s : _) → encrypt.Post κs a r s → KeySize (length (now (a .0))) → keyNumber (r .answer) ≡ 0
+encrypt-done κs a r s p = taken-then (now (a .0)) (r .answer) (ap (λ (x : Ciphered). x .answer) p ∙ encrypt-answer (now (a .0)) (a .1 .0))
+
+decrypt-answer : (key b : List ℕ) → decryptUnder key b .answer ≡ scheduleOf sBox key .answer
+unfolding decryptUnder
+decrypt-answer key b = refl
+
+pub decrypt-as-told : (κs : _) (a : _) (r : _) (s : _) → decrypt.Post κs a r s → KeySays (length (now (a .0))) (r .answer)
+decrypt-as-told κs a r s p = told (now (a .0)) (r .answer) (ap (λ (x : Ciphered). x .answer) p ∙ decrypt-answer (now (a .0)) (a .1 .0))
+
+pub decrypt-done : (κs : _) (a : _) (r : _) (s : _) → decrypt.Post κs a r s → KeySize (length (now (a .0))) → keyNumber (r .answer) ≡ 0
+decrypt-done κs a r s p = taken-then (now (a .0)) (r .answer) (ap (λ (x : Ciphered). x .answer) p ∙ decrypt-answer (now (a .0)) (a .1 .0))
+
+check-answer : (key m : List ℕ) → checkOf key m .answer ≡ scheduleOf sBox key .answer
+unfolding checkOf
+check-answer key m = refl
+
+pub check-as-told : (κs : _) (a : _) (r : _) (s : _) → check.Post κs a r s → KeySays (length (now (a .0))) (r .answer)
+check-as-told κs a r s p = told (now (a .0)) (r .answer) (ap (λ (x : Checked). x .answer) p ∙ check-answer (now (a .0)) (now (a .1 .0)))
+
+pub check-done : (κs : _) (a : _) (r : _) (s : _) → check.Post κs a r s → KeySize (length (now (a .0))) → keyNumber (r .answer) ≡ 0
+check-done κs a r s p = taken-then (now (a .0)) (r .answer) (ap (λ (x : Checked). x .answer) p ∙ check-answer (now (a .0)) (now (a .1 .0)))
+
+start-answer : (key : List ℕ) → startOf key .answer ≡ scheduleOf sBox key .answer
+unfolding startOf
+start-answer key = refl
+
+pub start-as-told : (κs : _) (a : _) (r : _) (s : _) → start.Post κs a r s → KeySays (length (now (a .0))) (r .answer)
+start-as-told κs a r s p = told (now (a .0)) (r .answer) (ap (λ (x : Started). x .answer) p ∙ start-answer (now (a .0)))
+
+pub start-done : (κs : _) (a : _) (r : _) (s : _) → start.Post κs a r s → KeySize (length (now (a .0))) → keyNumber (r .answer) ≡ 0
+start-done κs a r s p = taken-then (now (a .0)) (r .answer) (ap (λ (x : Started). x .answer) p ∙ start-answer (now (a .0)))

@@ -72,14 +72,14 @@ pub wrapped-size-in-rule : (n : ℕ) → 24 ≤ n → n ≤ 72 → n % 8 ≡ 0 �
 wrapped-size-in-rule n l h e = rule-wrapped-size n l h e
 
 -- every answer says what the table says of it; where no test fails, the call is done
-pub wrap-as-told : (key dat out : List ℕ) → WrapSays key (length dat) (length out) (wrapAnswer key dat out)
-wrap-as-told key dat out = wrap-says key dat out
+pub wrap-answer-as-told : (key dat out : List ℕ) → WrapSays key (length dat) (length out) (wrapAnswer key dat out)
+wrap-answer-as-told key dat out = wrap-says key dat out
 
 pub fit-is-wrapped : (key dat out : List ℕ) → WrapFit key (length dat) (length out) → wrapAnswer key dat out ≡ WrapDone
 fit-is-wrapped key dat out f = wrap-fits key dat out f
 
-pub unwrap-as-told : (key dat out : List ℕ) → UnwrapSays key dat (length out) (unwrapAnswer key dat out)
-unwrap-as-told key dat out = unwrap-says key dat out
+pub unwrap-answer-as-told : (key dat out : List ℕ) → UnwrapSays key dat (length out) (unwrapAnswer key dat out)
+unwrap-answer-as-told key dat out = unwrap-says key dat out
 
 pub fit-is-unwrapped : (key dat out : List ℕ) → UnwrapFit key dat (length out) → unwrapAnswer key dat out ≡ WrapDone
 fit-is-unwrapped key dat out f = unwrap-fits key dat out f

@@ -12,10 +12,11 @@ use Rattle.wrap.specs.Calls.{wrapNumber, wrapOutput, unwrapAnswer, unwrapOutput
 use Rattle.wrap.specs.declared.WrapAnswer.{WrapAnswer}
 use Rattle.wrap.specs.declared.WrapAnswer.the-variants.{WrapDone, WrapKey, WrapSize, WrapRoom, WrongInitial}
 use Rattle.promises.proofs.ImageTerms.{KeyTaken}
-use Rattle.promises.proofs.WrapTerms.{afterWrap, afterUnwrap, WrapFit, WrapSays, UnwrapSays, WrappingOf}
+use Rattle.promises.proofs.WrapTerms.{afterWrap, afterUnwrap, WrapFit, WrapSays, UnwrapFit, UnwrapSays, WrappingOf}
 use Rattle.promises.proofs.WrapLaws.{wrap-keeps, unwrap-keeps}
-use Rattle.promises.proofs.Wrap.{wrap-as-told, unwrap-as-told, wrap-never-19, key-data-is-wrapped, unwrap-after-wrap, accepted-exactly-wrappings, accepted-is-handed-out}
+use Rattle.promises.proofs.Wrap.{wrap-answer-as-told, unwrap-answer-as-told, wrap-never-19, fit-is-wrapped, fit-is-unwrapped, key-data-is-wrapped, unwrap-after-wrap, accepted-exactly-wrappings, accepted-is-handed-out}
 use Rattle.wrap.proofs.wrap.Reads as wrap
+use Rattle.wrap.proofs.WrapAnswer.number.Reads as wrap-number
 use Rattle.wrap.proofs.unwrap.Reads as unwrap
 
 -- ---- demand 1
@@ -33,6 +34,12 @@ pub wrap-refused-keeps : (κs : _) (a : _) (r : _) (s : _) → wrap.Post κs a r
     → now (s .1 .1 .0) ≡ now (a .1 .1 .0)
 wrap-refused-keeps κs a r s p h = p .1 ∙ wrap-keeps r (now (a .0)) (now (a .1 .0)) (now (a .1 .1 .0)) h
 
+pub wrap-number-asks-nothing : (κs : _) (a : _) → wrap-number.Asked κs a
+wrap-number-asks-nothing κs a = tt
+
+pub wrap-number-determined : (κs : _) (a : _) (r r′ : _) (s s′ : _) → wrap-number.Post κs a r s → wrap-number.Post κs a r′ s′ → r ≡ r′
+wrap-number-determined κs a r r′ s s′ p q = p ∙ sym q
+
 pub unwrap-asks-nothing : (κs : _) (a : _) → unwrap.Asked κs a
 unwrap-asks-nothing κs a = tt
 
@@ -48,22 +55,29 @@ unwrap-refused-keeps κs a r s p h = p .1 ∙ unwrap-keeps r (now (a .0)) (now (
 
 -- ---- demand 2: the answers say what the table says, and wrapping is never refused by 19
 
-pub wrap-says-why : (κs : _) (a : _) (r : _) (s : _) → wrap.Post κs a r s
+pub wrap-as-told : (κs : _) (a : _) (r : _) (s : _) → wrap.Post κs a r s
     → WrapSays (now (a .0)) (length (now (a .1 .0))) (length (now (a .1 .1 .0))) r × (wrapNumber r ≡ 19 → ⊥)
-wrap-says-why κs a r s p =
+wrap-as-told κs a r s p =
     let key = now (a .0) in
     let dat = now (a .1 .0) in
     let out = now (a .1 .1 .0) in
-    (subst (WrapSays key (length dat) (length out)) (sym (p .0)) (wrap-as-told key dat out), λ e. wrap-never-19 key dat out (sym (ap wrapNumber (p .0)) ∙ e))
+    (subst (WrapSays key (length dat) (length out)) (sym (p .0)) (wrap-answer-as-told key dat out), λ e. wrap-never-19 key dat out (sym (ap wrapNumber (p .0)) ∙ e))
 
-pub unwrap-says-why : (κs : _) (a : _) (r : _) (s : _) → unwrap.Post κs a r s → UnwrapSays (now (a .0)) (now (a .1 .0)) (length (now (a .1 .1 .0))) r
-unwrap-says-why κs a r s p =
+pub unwrap-as-told : (κs : _) (a : _) (r : _) (s : _) → unwrap.Post κs a r s → UnwrapSays (now (a .0)) (now (a .1 .0)) (length (now (a .1 .1 .0))) r
+unwrap-as-told κs a r s p =
     let key = now (a .0) in
     let dat = now (a .1 .0) in
     let out = now (a .1 .1 .0) in
-    subst (UnwrapSays key dat (length out)) (sym (p .0)) (unwrap-as-told key dat out)
+    subst (UnwrapSays key dat (length out)) (sym (p .0)) (unwrap-answer-as-told key dat out)
 
--- ---- demands 2 and 3: what a call that is done wrote
+-- where no rule fails, the call is done
+pub wrap-done : (κs : _) (a : _) (r : _) (s : _) → wrap.Post κs a r s → WrapFit (now (a .0)) (length (now (a .1 .0))) (length (now (a .1 .1 .0))) → wrapNumber r ≡ 0
+wrap-done κs a r s p f = ap wrapNumber (p .0 ∙ fit-is-wrapped (now (a .0)) (now (a .1 .0)) (now (a .1 .1 .0)) f)
+
+pub unwrap-done : (κs : _) (a : _) (r : _) (s : _) → unwrap.Post κs a r s → UnwrapFit (now (a .0)) (now (a .1 .0)) (length (now (a .1 .1 .0))) → wrapNumber r ≡ 0
+unwrap-done κs a r s p f = ap wrapNumber (p .0 ∙ fit-is-unwrapped (now (a .0)) (now (a .1 .0)) (now (a .1 .1 .0)) f)
+
+-- ---- demands 2 and 3: what a call that fits wrote
 
 done : (r : WrapAnswer) → wrapNumber r ≡ 0 → r ≡ WrapDone
 done WrapDone e = refl
@@ -72,10 +86,8 @@ done WrapSize e = absurd (omega arith)
 done WrapRoom e = absurd (omega arith)
 done WrongInitial e = absurd (omega arith)
 
-module _ (κs : _) (a : _) (r : _) (s : _) (p : wrap.Post κs a r s) (z : wrapNumber r ≡ 0) (bytes : Bytes (now (a .1 .0))) where
-  fit : WrapFit (now (a .0)) (length (now (a .1 .0))) (length (now (a .1 .1 .0)))
-  fit = subst (WrapSays (now (a .0)) (length (now (a .1 .0))) (length (now (a .1 .1 .0)))) (sym (p .0) ∙ done r z) (wrap-as-told (now (a .0)) (now (a .1 .0)) (now (a .1 .1 .0)))
-
+module _ (κs : _) (a : _) (r : _) (s : _) (p : wrap.Post κs a r s) (fit : WrapFit (now (a .0)) (length (now (a .1 .0))) (length (now (a .1 .1 .0))))
+    (bytes : Bytes (now (a .1 .0))) where
   left : now (s .1 .1 .0) ≡ afterWrap (now (a .0)) (now (a .1 .0)) (now (a .1 .1 .0))
   left = p .1 ∙ ap (λ (x : WrapAnswer). wrapOutput x (now (a .0)) (now (a .1 .0)) (now (a .1 .1 .0))) (p .0)
 

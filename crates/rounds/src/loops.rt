@@ -1,5 +1,6 @@
 // The rounds of FIPS 197 on a state of four columns, each a word, by lookups in a table of words.
 use lookups::Columns;
+use schedule::RoundKeyNumber;
 use states::looked;
 use states::looked_last;
 use states::mirrored;
@@ -15,21 +16,6 @@ ghost use Rattle.lookups.specs.Tables as spec;
 pub struct TwoStates {
     pub first: Columns,
     pub second: Columns,
-}
-
-// Round keys and words are counted apart.
-pub struct RoundKeyNumber(pub usize);
-
-pub struct WordNumber(pub usize);
-
-impl RoundKeyNumber {
-    // Four words a round key.
-    pub fn first_word(self) -> WordNumber
-        requires { ⌜ self .0 < 15 ⌝ }
-        ensures { λ r. ⌜ r .0 ≡ 4 * self .0 ⌝ }
-    {
-        WordNumber(4 * self.0)
-    }
 }
 
 pub fn cipher(table: &[u32; 256], words: &[u32; 60], rounds: usize, s: Columns) -> Columns

@@ -46,6 +46,7 @@ pub fn table() -> [u8; 256]
     SBOX
 }
 
+// Stored as the requirements want it. No round reads it: decryption looks up in a table of words that the inverse S-box is mixed into.
 pub fn inv_table() -> [u8; 256]
     ensures { λ r. ⌜ r ≡ tabulate 256 invSBox ⌝ }
 {

@@ -1,6 +1,6 @@
 -- KEYEXPANSION of FIPS 197, 5.2, over any substitution `sub` of bytes: the standard's is at `sBox`.
 -- Nk is the number of words of the key, Nr that of rounds. Assumes nothing: these are definitions.
-use Prim.Native.Nat.{ℕ, zero, suc, _+_, _-_, _*_, _/_, _%_}
+use Prim.Native.Nat.{ℕ, zero, suc, _+_, _-_, _*_, _/_, _%_, min}
 use mathlib.Core.Bool.{Bool, _||_}
 use mathlib.Core.List.{List, [], _∷_, _++_}
 use lib.Dec.{eqb, ltb}
@@ -56,7 +56,7 @@ scheduleOf sub key =
     (choose (eqb (length key) 24) (taken sub key 6 12)
     (choose (eqb (length key) 32) (taken sub key 8 14) refused))
 
--- document 01's number for each answer
+-- the number of each answer (docs/REFUSALS.md)
 abbrev pub keyNumber : KeyAnswer → ℕ
 keyNumber Taken = 0
 keyNumber KeyLength = 1
@@ -64,3 +64,7 @@ keyNumber KeyLength = 1
 -- the numbers of rounds that a key can give (table 3)
 abbrev pub roundCount : ℕ → Bool
 roundCount nr = eqb nr 10 || (eqb nr 12 || eqb nr 14)
+
+-- round key n is words 4n to 4n + 3; past the last round key that a schedule has room for, its end
+abbrev pub firstWord : ℕ → ℕ
+firstWord n = min (4 * n) 60

@@ -10,7 +10,7 @@ ghost use lib.ListN.{length};
 ghost use Rattle.octets.specs.Octets.{padTo, entry};
 ghost use Rattle.field.specs.Field.{xPower};
 ghost use Rattle.sbox.specs.Sbox.{sBox};
-ghost use Rattle.schedule.specs.Schedule.{rCon, temp, keyWord, nextWord, keyExpansion, taken, scheduleOf, roundCount};
+ghost use Rattle.schedule.specs.Schedule.{rCon, temp, keyWord, nextWord, keyExpansion, taken, scheduleOf, keyNumber, roundCount, firstWord};
 
 // Whether the key was taken, or refused for its length.
 pub enum KeyAnswer {
@@ -27,6 +27,35 @@ pub struct KeySchedule {
 pub struct Expanded {
     pub answer: KeyAnswer,
     pub schedule: KeySchedule,
+}
+
+// Round keys and words are counted apart.
+pub struct RoundKeyNumber(pub usize);
+
+pub struct WordNumber(pub usize);
+
+impl KeyAnswer {
+    pub fn number(self) -> u32
+        ensures { λ r. ⌜ r ≡ keyNumber self ⌝ }
+    {
+        match self {
+            KeyAnswer::Taken => 0,
+            KeyAnswer::KeyLength => 1,
+        }
+    }
+}
+
+impl RoundKeyNumber {
+    // Four words a round key; past the last that a schedule has room for, the end of its words.
+    pub fn first_word(self) -> WordNumber
+        ensures { λ r. ⌜ r .0 ≡ firstWord (self .0) ⌝ }
+    {
+        let n = self.0;
+        if n < 15 {
+            return WordNumber(4 * n);
+        }
+        WordNumber(60)
+    }
 }
 
 impl KeySchedule {
@@ -47,29 +76,29 @@ impl KeySchedule {
         ensures { λ r. ⌜ r ≡ scheduleOf sBox (now (key .entry)) ⌝ }
     {
         let sbox = table();
-        KeySchedule::with(&sbox, key)
+        scheduled(&sbox, key)
     }
+}
 
-    // The same with the S-box lent, for callers that need it for more.
-    pub fn with(sbox: &[u8; 256], key: &[u8]) -> Expanded
-        ensures { λ r. ⌜ r ≡ scheduleOf (entry (now (sbox .entry))) (now (key .entry)) ⌝ }
-    {
-        if key.len() == 16 {
-            return made(sbox, key, KeySchedule::WORDS_16, KeySchedule::ROUNDS_16);
-        }
-        if key.len() == 24 {
-            return made(sbox, key, KeySchedule::WORDS_24, KeySchedule::ROUNDS_24);
-        }
-        if key.len() == 32 {
-            return made(sbox, key, KeySchedule::WORDS_32, KeySchedule::ROUNDS_32);
-        }
-        Expanded {
-            answer: KeyAnswer::KeyLength,
-            schedule: KeySchedule {
-                words: [0u32; 60],
-                rounds: 0,
-            },
-        }
+// The schedule of a key by its length, with the S-box lent.
+fn scheduled(sbox: &[u8; 256], key: &[u8]) -> Expanded
+    ensures { λ r. ⌜ r ≡ scheduleOf (entry (now (sbox .entry))) (now (key .entry)) ⌝ }
+{
+    if key.len() == 16 {
+        return made(sbox, key, KeySchedule::WORDS_16, KeySchedule::ROUNDS_16);
+    }
+    if key.len() == 24 {
+        return made(sbox, key, KeySchedule::WORDS_24, KeySchedule::ROUNDS_24);
+    }
+    if key.len() == 32 {
+        return made(sbox, key, KeySchedule::WORDS_32, KeySchedule::ROUNDS_32);
+    }
+    Expanded {
+        answer: KeyAnswer::KeyLength,
+        schedule: KeySchedule {
+            words: [0u32; 60],
+            rounds: 0,
+        },
     }
 }
 
@@ -102,8 +131,9 @@ fn expand(sbox: &[u8; 256], key: &[u8], nk: usize, nr: usize) -> [u32; 60]
     requires { ⌜ (0 < nk) × ((nk * 4 ≤ length (now key)) × (nr < 15)) ⌝ }
     ensures { λ r. ⌜ r ≡ padTo 60 (keyExpansion (entry (now (sbox .entry))) (now (key .entry)) nk (4 * (nr + 1))) ⌝ }
 {
+    let end = RoundKeyNumber(nr + 1).first_word();
     let mut words = [0u32; 60];
-    for i in 0..4 * (nr + 1) {
+    for i in 0..end.0 {
         let w = next_word(sbox, key, nk, &words, i);
         words[i] = w;
     }

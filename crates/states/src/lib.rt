@@ -4,6 +4,7 @@ use words::join;
 use words::middles;
 use words::mix_column;
 use words::spun;
+use words::word_bytes;
 ghost use mathlib.Core.Path.{_≡_};
 ghost use Rattle.octets.specs.Octets.{entry};
 ghost use Rattle.lookups.specs.Columns.{blockOf, columnsOf};
@@ -24,23 +25,27 @@ pub fn load(block: [u8; 16]) -> Columns
 pub fn store(s: Columns) -> [u8; 16]
     ensures { λ r. ⌜ r ≡ blockOf s ⌝ }
 {
+    let a = word_bytes(s.0);
+    let b = word_bytes(s.1);
+    let c = word_bytes(s.2);
+    let d = word_bytes(s.3);
     [
-        (s.0 / 16777216 % 256) as u8,
-        (s.0 / 65536 % 256) as u8,
-        (s.0 / 256 % 256) as u8,
-        (s.0 % 256) as u8,
-        (s.1 / 16777216 % 256) as u8,
-        (s.1 / 65536 % 256) as u8,
-        (s.1 / 256 % 256) as u8,
-        (s.1 % 256) as u8,
-        (s.2 / 16777216 % 256) as u8,
-        (s.2 / 65536 % 256) as u8,
-        (s.2 / 256 % 256) as u8,
-        (s.2 % 256) as u8,
-        (s.3 / 16777216 % 256) as u8,
-        (s.3 / 65536 % 256) as u8,
-        (s.3 / 256 % 256) as u8,
-        (s.3 % 256) as u8,
+        a[0],
+        a[1],
+        a[2],
+        a[3],
+        b[0],
+        b[1],
+        b[2],
+        b[3],
+        c[0],
+        c[1],
+        c[2],
+        c[3],
+        d[0],
+        d[1],
+        d[2],
+        d[3],
     ]
 }
 

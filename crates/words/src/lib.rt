@@ -1,7 +1,8 @@
 // Words of four bytes in one u32, the first byte highest: made of bytes, rotated, substituted and mixed.
 ghost use mathlib.Core.Path.{_≡_};
 ghost use Prim.Native.Nat.{_<_};
-ghost use Rattle.octets.specs.Words.{word};
+ghost use mathlib.Core.List.{[], _∷_};
+ghost use Rattle.octets.specs.Words.{word, bytesOf};
 ghost use Rattle.octets.specs.Octets.{entry};
 ghost use Rattle.words.specs.Columns.{rotWord, rotTwo, rotThree, diagonal, IsDiagonal, doubled, mixColumn, invMixColumn, middle};
 ghost use Rattle.words.specs.Columns as spec;
@@ -10,6 +11,18 @@ pub fn join(a: u8, b: u8, c: u8, d: u8) -> u32
     ensures { λ r. ⌜ r ≡ word a b c d ⌝ }
 {
     packed(wide(a), wide(b), wide(c), wide(d))
+}
+
+// The four bytes of a word, the highest first.
+pub fn word_bytes(x: u32) -> [u8; 4]
+    ensures { λ r. ⌜ r ≡ bytesOf (x ∷ []) ⌝ }
+{
+    [
+        (x / 16777216 % 256) as u8,
+        (x / 65536 % 256) as u8,
+        (x / 256 % 256) as u8,
+        (x % 256) as u8,
+    ]
 }
 
 pub fn rot_word(x: u32) -> u32

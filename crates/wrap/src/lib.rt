@@ -31,6 +31,20 @@ pub enum WrapAnswer {
     WrongInitial,
 }
 
+impl WrapAnswer {
+    pub fn number(self) -> u32
+        ensures { λ r. ⌜ r ≡ spec.wrapNumber self ⌝ }
+    {
+        match self {
+            WrapAnswer::WrapDone => 0,
+            WrapAnswer::WrapKey => 1,
+            WrapAnswer::WrapRoom => 4,
+            WrapAnswer::WrapSize => 18,
+            WrapAnswer::WrongInitial => 19,
+        }
+    }
+}
+
 // Wraps 16 to 64 bytes of key data, a multiple of 8; the result, 8 bytes more, goes into the first bytes of the output.
 // A refused call leaves the output as it was, and so do bytes of it past the result.
 pub fn wrap(key: &[u8], data: &[u8], output: &mut [u8]) -> WrapAnswer

@@ -13,20 +13,20 @@ use Rattle.schedule.proofs.expand.Statement.{statement}
 use Rattle.schedule.proofs.expand.Tie as tie
 
 abbrev Inv-loop : tie.InvT-loop
-Inv-loop sbox key nk nr words₀ i₀ i-end words i = (i ≤ i-end) × (words ≡ padTo 60 (keyExpansion (entry sbox) key nk i))
+Inv-loop sbox key nk nr words₀ i₀ i-end words i = (i ≤ i-end) × (i-end ≡ 4 * (nr + 1)) × (words ≡ padTo 60 (keyExpansion (entry sbox) key nk i))
 
 abbrev μ-loop : tie.MeasureT-loop
 μ-loop sbox key nk nr words₀ i₀ i-end words i = i-end - i
 
-add-i-end : tie.Need-add-i-end Inv-loop μ-loop
-add-i-end c = search needs
+add-t9 : tie.Need-add-t9 Inv-loop μ-loop
+add-t9 c = search needs
 
-mul-i-end : tie.Need-mul-i-end Inv-loop μ-loop
-mul-i-end c = search needs
+first-word-requires : tie.Need-first-word-requires Inv-loop μ-loop
+first-word-requires c κs = search needs
 
 loop-holds : tie.Need-loop-holds Inv-loop μ-loop
 unfolding keyExpansion
-loop-holds c = (search needs, padTo-none 60)
+loop-holds c = (search needs, search needs, padTo-none 60)
 
 next-word-requires : tie.Need-next-word-requires Inv-loop μ-loop
 next-word-requires c κs = search needs
@@ -45,18 +45,20 @@ loop-less c = search needs
 
 loop-again : tie.Need-loop-again Inv-loop μ-loop
 loop-again c =
-    let a = c .before .before .before .before .before .args in
+    let a = c .before .before .before .before .before .before .args in
     let sub = entry (now (a .sbox)) in
-    let i = c .before .before .before .loop .i in
-    let e = c .before .before .before .loop .inv .1 in (
+    let l = c .before .before .before .loop in
+    let i = l .i in
+    let e = l .inv .2 in (
       search needs,
+      l .inv .1,
       ap (λ (w : List ℕ). set w i (c .next-word .result)) e
           ∙ expansion-more sub (now (a .key)) (a .nk) i (c .next-word .result) (omega arith)
           (c .next-word .ensures ∙ ap (λ (w : List ℕ). nextWord sub (now (a .key)) (a .nk) w i) e),
     )
 
 returns : tie.Need-returns Inv-loop μ-loop
-returns c = let e : c .before .loop .i ≡ 4 * (c .before .before .before .args .nr + 1) = omega arith in cc
+returns c = let e : c .before .loop .i ≡ 4 * (c .before .before .before .before .args .nr + 1) = omega arith in rw (← e) (c .before .loop .inv .2)
 
 pub expand-spec : {M : Type 1} → statement M
 expand-spec =
@@ -64,8 +66,8 @@ expand-spec =
     (tie.spec
     Inv-loop
     μ-loop
-    add-i-end
-    mul-i-end
+    add-t9
+    first-word-requires
     loop-holds
     next-word-requires
     mul-words

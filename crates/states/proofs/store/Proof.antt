@@ -3,76 +3,92 @@ use borrow.Author.Needs.{needs}
 use Rattle.states.proofs.store.Statement.{statement}
 use Rattle.states.proofs.store.Tie as tie
 
-cast-t4 : tie.Need-cast-t4
-cast-t4 c = search needs
+word-bytes-requires : tie.Need-word-bytes-requires
+word-bytes-requires c κs = search needs
 
-cast-t7 : tie.Need-cast-t7
-cast-t7 c = search needs
+word-bytes-requires-2 : tie.Need-word-bytes-requires-2
+word-bytes-requires-2 c κs = search needs
 
-cast-t10 : tie.Need-cast-t10
-cast-t10 c = search needs
+word-bytes-requires-3 : tie.Need-word-bytes-requires-3
+word-bytes-requires-3 c κs = search needs
 
-cast-t12 : tie.Need-cast-t12
-cast-t12 c = search needs
+word-bytes-requires-4 : tie.Need-word-bytes-requires-4
+word-bytes-requires-4 c κs = search needs
 
-cast-t15 : tie.Need-cast-t15
-cast-t15 c = search needs
+array-read-t9 : tie.Need-array-read-t9
+array-read-t9 c = search needs
 
-cast-t18 : tie.Need-cast-t18
-cast-t18 c = search needs
+array-read-t12 : tie.Need-array-read-t12
+array-read-t12 c = search needs
 
-cast-t21 : tie.Need-cast-t21
-cast-t21 c = search needs
+array-read-t15 : tie.Need-array-read-t15
+array-read-t15 c = search needs
 
-cast-t23 : tie.Need-cast-t23
-cast-t23 c = search needs
+array-read-t18 : tie.Need-array-read-t18
+array-read-t18 c = search needs
 
-cast-t26 : tie.Need-cast-t26
-cast-t26 c = search needs
+array-read-t21 : tie.Need-array-read-t21
+array-read-t21 c = search needs
 
-cast-t29 : tie.Need-cast-t29
-cast-t29 c = search needs
+array-read-t24 : tie.Need-array-read-t24
+array-read-t24 c = search needs
 
-cast-t32 : tie.Need-cast-t32
-cast-t32 c = search needs
+array-read-t27 : tie.Need-array-read-t27
+array-read-t27 c = search needs
 
-cast-t34 : tie.Need-cast-t34
-cast-t34 c = search needs
+array-read-t30 : tie.Need-array-read-t30
+array-read-t30 c = search needs
 
-cast-t37 : tie.Need-cast-t37
-cast-t37 c = search needs
+array-read-t33 : tie.Need-array-read-t33
+array-read-t33 c = search needs
 
-cast-t40 : tie.Need-cast-t40
-cast-t40 c = search needs
+array-read-t36 : tie.Need-array-read-t36
+array-read-t36 c = search needs
 
-cast-t43 : tie.Need-cast-t43
-cast-t43 c = search needs
+array-read-t39 : tie.Need-array-read-t39
+array-read-t39 c = search needs
 
-cast-t45 : tie.Need-cast-t45
-cast-t45 c = search needs
+array-read-t42 : tie.Need-array-read-t42
+array-read-t42 c = search needs
+
+array-read-t45 : tie.Need-array-read-t45
+array-read-t45 c = search needs
+
+array-read-t48 : tie.Need-array-read-t48
+array-read-t48 c = search needs
+
+array-read-t51 : tie.Need-array-read-t51
+array-read-t51 c = search needs
+
+array-read-t54 : tie.Need-array-read-t54
+array-read-t54 c = search needs
 
 returns : tie.Need-returns
 unfolding bytesOf
-returns c = search needs
+returns c = rw (c .before .before .before .word-bytes .ensures, c .before .before .word-bytes2 .ensures, c .before .word-bytes3 .ensures, c .word-bytes4 .ensures)
 
 pub store-spec : {M : Type 1} → statement M
 store-spec =
     tie.close
     (tie.spec
-    cast-t4
-    cast-t7
-    cast-t10
-    cast-t12
-    cast-t15
-    cast-t18
-    cast-t21
-    cast-t23
-    cast-t26
-    cast-t29
-    cast-t32
-    cast-t34
-    cast-t37
-    cast-t40
-    cast-t43
-    cast-t45
+    word-bytes-requires
+    word-bytes-requires-2
+    word-bytes-requires-3
+    word-bytes-requires-4
+    array-read-t9
+    array-read-t12
+    array-read-t15
+    array-read-t18
+    array-read-t21
+    array-read-t24
+    array-read-t27
+    array-read-t30
+    array-read-t33
+    array-read-t36
+    array-read-t39
+    array-read-t42
+    array-read-t45
+    array-read-t48
+    array-read-t51
+    array-read-t54
     returns)

@@ -36,7 +36,7 @@ slice-write-out : tie.Need-slice-write-out Inv-loop μ-loop
 slice-write-out c = search needs
 
 char-of-requires-2 : tie.Need-char-of-requires-2 Inv-loop μ-loop
-char-of-requires-2 c κs = search needs
+char-of-requires-2 c κs = omega (arith, c .before .shared-slice-known2 .given (c .before .before .before .loop .i))
 
 mul-out-2 : tie.Need-mul-out-2 Inv-loop μ-loop
 mul-out-2 c = search needs

@@ -1,3 +1,6 @@
+use Prim.Native.Nat.{_*_}
+use mathlib.Core.Path.{_≡_}
+use native.Mathlib.Omega.{arith}
 use Rattle.lookups.specs.Tables.{keyed}
 use Rattle.octets.specs.Octets.{xor}
 use borrow.Author.Needs.{needs}
@@ -42,7 +45,10 @@ element-copy-out-t27 c = search needs
 
 returns : tie.Need-returns
 unfolding keyed xor
-returns c = rw (c .before .before .before .before .before .before .before .before .first-word .ensures)
+returns c =
+    let f = c .before .before .before .before .before .before .before .before .first-word in
+    let e : f .result .0 ≡ 4 * c .before .before .before .before .before .before .before .before .before .args .n .0 = omega (arith, f .ensures) in
+    rw e
 
 pub add-round-key-spec : {M : Type 1} → statement M
 add-round-key-spec =

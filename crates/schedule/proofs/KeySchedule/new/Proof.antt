@@ -13,13 +13,13 @@ use Rattle.schedule.proofs.KeySchedule.new.Tie as tie
 table-requires : tie.Need-table-requires
 table-requires c κs = search needs
 
-with-requires : tie.Need-with-requires
-with-requires c κs = search needs
+scheduled-requires : tie.Need-scheduled-requires
+scheduled-requires c κs = search needs
 
 returns : tie.Need-returns
 returns c =
     let key = now (c .before .before .before .before .args .key) in
-    c .with .ensures ∙ ap (λ (t : List ℕ). scheduleOf (entry t) key) (c .before .before .table .ensures) ∙ schedule-table sBox key
+    c .scheduled .ensures ∙ ap (λ (t : List ℕ). scheduleOf (entry t) key) (c .before .before .table .ensures) ∙ schedule-table sBox key
 
 pub new-spec : {M : Type 1} → statement M
-new-spec = tie.close (tie.spec table-requires with-requires returns)
+new-spec = tie.close (tie.spec table-requires scheduled-requires returns)

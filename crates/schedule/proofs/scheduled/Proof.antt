@@ -1,8 +1,8 @@
 use borrow.Author.Tests.{eq-eqb, ne-eqb}
 use Rattle.schedule.specs.Schedule.{scheduleOf, refused}
 use borrow.Author.Needs.{needs}
-use Rattle.schedule.proofs.KeySchedule.with.Statement.{statement}
-use Rattle.schedule.proofs.KeySchedule.with.Tie as tie
+use Rattle.schedule.proofs.scheduled.Statement.{statement}
+use Rattle.schedule.proofs.scheduled.Tie as tie
 
 made-requires : tie.Need-made-requires
 made-requires c κs = search needs
@@ -29,7 +29,7 @@ returns-4 : tie.Need-returns-4
 unfolding scheduleOf refused
 returns-4 c = simp (ne-eqb _ _ (c .before .before .if1 .left), ne-eqb _ _ (c .before .if2 .left), ne-eqb _ _ (c .if3 .left))
 
-pub with-spec : {M : Type 1} → statement M
-with-spec =
+pub scheduled-spec : {M : Type 1} → statement M
+scheduled-spec =
     tie.close
     (tie.spec made-requires returns made-requires-2 returns-2 made-requires-3 returns-3 returns-4)
