@@ -1,7 +1,7 @@
 // The library's calls for C and C++: AES, its modes, the check (CMAC), release images and the key wrap.
 //
-// Building and linking. `rt staticlib abi && rt staticlib cmac` proves the library and writes target/staticlib/libabi.a and
-// libcmac.a, for x86-64 Linux. libabi.a has every call below but cmac_feed, which is in libcmac.a. Both use memcpy and memset and
+// Building and linking. `rt staticlib dock && rt staticlib cmac` proves the library and writes target/staticlib/libdock.a and
+// libcmac.a, for x86-64 Linux. libdock.a has every call below but cmac_feed, which is in libcmac.a. Both use memcpy and memset and
 // nothing else: no heap, no file, no memory of their own that is written. So calls may run in several threads at once.
 //
 // Answers. Every call ends, and every input has one answer, the same each time: 0 where the call was carried out, or the number of

@@ -1,4 +1,4 @@
-//! Says where the archives of `rt staticlib abi` and `rt staticlib cmac` are: in DOCK_LIBS, or in this repository's target/staticlib.
+//! Says where the archives of `rt staticlib dock` and `rt staticlib cmac` are: in DOCK_LIBS, or in this repository's target/staticlib.
 
 use std::env;
 use std::path::{Path, PathBuf};
@@ -9,7 +9,7 @@ fn main() {
     let folder = env::var_os("DOCK_LIBS").map_or(own, PathBuf::from);
     println!("cargo:rerun-if-env-changed=DOCK_LIBS");
     println!("cargo:rustc-link-search=native={}", folder.display());
-    for name in ["abi", "cmac"] {
+    for name in ["dock", "cmac"] {
         link(&folder, name);
     }
 }

@@ -1,6 +1,6 @@
 // One block of FIPS 197's example, encrypted. Build and run, in the repository:
-//     rt staticlib abi
-//     cc -Iinclude examples/c/one_block.c target/staticlib/libabi.a -o one_block && ./one_block
+//     rt staticlib dock
+//     cc -Iinclude examples/c/one_block.c target/staticlib/libdock.a -o one_block && ./one_block
 #include <stdio.h>
 
 #include "dock.h"

@@ -1,8 +1,8 @@
 // Seals a file into a release image, and reads an image back into a file. Every answer of the library is looked at, and said in words.
 //
 // Build, in the repository:
-//     rt staticlib abi
-//     cc -std=c11 -O2 -Wall -Wextra -Iinclude examples/c/seal_and_read.c target/staticlib/libabi.a -o seal_and_read
+//     rt staticlib dock
+//     cc -std=c11 -O2 -Wall -Wextra -Iinclude examples/c/seal_and_read.c target/staticlib/libdock.a -o seal_and_read
 // Run; KEYS is a file of 32 bytes, encryption key and check key of 16 each, and samples/keys is one for trials:
 //     ./seal_and_read seal KEYS RELEASE FILE IMAGE
 //     ./seal_and_read read KEYS IMAGE FILE

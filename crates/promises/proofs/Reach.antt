@@ -16,35 +16,35 @@ use Rattle.image.specs.declared.Stop.{Stop}
 use Rattle.image.specs.declared.Stop.the-variants.{End, Asked, Lent, Room, At}
 use Rattle.image.specs.declared.Turn.{Turn}
 use Rattle.wrap.specs.Calls.{wrapAnswer, unwrapAnswer}
-use Rattle.abi.specs.Abi.{afterMode, flagOf, readerOf, stateOf, toldOf, turnAnswer}
-use Rattle.abi.specs.declared.ReaderState.{ReaderState}
-use Rattle.abi.specs.declared.ReadStartAnswer.{ReadStartAnswer}
-use Rattle.abi.specs.declared.TurnAnswer.{TurnAnswer}
+use Rattle.dock.specs.Answers.{afterMode, flagOf, readerOf, stateOf, toldOf, turnAnswer}
+use Rattle.dock.specs.declared.ReaderState.{ReaderState}
+use Rattle.dock.specs.declared.ReadStartAnswer.{ReadStartAnswer}
+use Rattle.dock.specs.declared.TurnAnswer.{TurnAnswer}
 use Rattle.promises.proofs.ImageTerms.{Whole}
 use Rattle.promises.proofs.Image.{write-refusal-keeps, turn-refusal-keeps}
 use Rattle.promises.proofs.WrapLaws.{wrap-keeps, unwrap-keeps}
-use Rattle.abi.proofs.dock_product.Reads as dock-product
-use Rattle.abi.proofs.dock_schedule.Reads as dock-schedule
-use Rattle.abi.proofs.dock_encrypt.Reads as dock-encrypt
-use Rattle.abi.proofs.dock_decrypt.Reads as dock-decrypt
-use Rattle.abi.proofs.dock_ecb_encrypt.Reads as dock-ecb-encrypt
-use Rattle.abi.proofs.dock_ecb_decrypt.Reads as dock-ecb-decrypt
-use Rattle.abi.proofs.dock_cbc_encrypt.Reads as dock-cbc-encrypt
-use Rattle.abi.proofs.dock_cbc_decrypt.Reads as dock-cbc-decrypt
-use Rattle.abi.proofs.dock_cfb_encrypt.Reads as dock-cfb-encrypt
-use Rattle.abi.proofs.dock_cfb_decrypt.Reads as dock-cfb-decrypt
-use Rattle.abi.proofs.dock_ofb_encrypt.Reads as dock-ofb-encrypt
-use Rattle.abi.proofs.dock_ofb_decrypt.Reads as dock-ofb-decrypt
-use Rattle.abi.proofs.dock_check.Reads as dock-check
-use Rattle.abi.proofs.dock_check_start.Reads as dock-check-start
-use Rattle.abi.proofs.dock_check_feed.Reads as dock-check-feed
-use Rattle.abi.proofs.dock_check_close.Reads as dock-check-close
-use Rattle.abi.proofs.dock_write.Reads as dock-write
-use Rattle.abi.proofs.dock_read_start.Reads as dock-read-start
-use Rattle.abi.proofs.dock_read_turn.Reads as dock-read-turn
-use Rattle.abi.proofs.dock_read_complete.Reads as dock-read-complete
-use Rattle.abi.proofs.dock_wrap.Reads as dock-wrap
-use Rattle.abi.proofs.dock_unwrap.Reads as dock-unwrap
+use Rattle.dock.proofs.dock_product.Reads as dock-product
+use Rattle.dock.proofs.dock_schedule.Reads as dock-schedule
+use Rattle.dock.proofs.dock_encrypt.Reads as dock-encrypt
+use Rattle.dock.proofs.dock_decrypt.Reads as dock-decrypt
+use Rattle.dock.proofs.dock_ecb_encrypt.Reads as dock-ecb-encrypt
+use Rattle.dock.proofs.dock_ecb_decrypt.Reads as dock-ecb-decrypt
+use Rattle.dock.proofs.dock_cbc_encrypt.Reads as dock-cbc-encrypt
+use Rattle.dock.proofs.dock_cbc_decrypt.Reads as dock-cbc-decrypt
+use Rattle.dock.proofs.dock_cfb_encrypt.Reads as dock-cfb-encrypt
+use Rattle.dock.proofs.dock_cfb_decrypt.Reads as dock-cfb-decrypt
+use Rattle.dock.proofs.dock_ofb_encrypt.Reads as dock-ofb-encrypt
+use Rattle.dock.proofs.dock_ofb_decrypt.Reads as dock-ofb-decrypt
+use Rattle.dock.proofs.dock_check.Reads as dock-check
+use Rattle.dock.proofs.dock_check_start.Reads as dock-check-start
+use Rattle.dock.proofs.dock_check_feed.Reads as dock-check-feed
+use Rattle.dock.proofs.dock_check_close.Reads as dock-check-close
+use Rattle.dock.proofs.dock_write.Reads as dock-write
+use Rattle.dock.proofs.dock_read_start.Reads as dock-read-start
+use Rattle.dock.proofs.dock_read_turn.Reads as dock-read-turn
+use Rattle.dock.proofs.dock_read_complete.Reads as dock-read-complete
+use Rattle.dock.proofs.dock_wrap.Reads as dock-wrap
+use Rattle.dock.proofs.dock_unwrap.Reads as dock-unwrap
 
 -- ---- the field, the key schedule and one block
 

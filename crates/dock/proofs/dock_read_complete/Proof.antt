@@ -1,0 +1,22 @@
+use mathlib.Core.Path.{ap, _∙_}
+use Rattle.image.specs.Calls.{completionNumber, completionOf}
+use borrow.Author.Needs.{needs}
+use Rattle.dock.proofs.dock_read_complete.Statement.{statement}
+use Rattle.dock.proofs.dock_read_complete.Tie as tie
+
+reader-of-requires : tie.Need-reader-of-requires
+reader-of-requires c κs = search needs
+
+read-complete-requires : tie.Need-read-complete-requires
+read-complete-requires c κs = search needs
+
+completion-number-requires : tie.Need-completion-number-requires
+completion-number-requires c κs = search needs
+
+returns : tie.Need-returns
+returns c = c .completion-number .ensures ∙ ap completionNumber (c .before .read-complete .ensures ∙ ap completionOf (c .before .before .reader-of .ensures))
+
+pub dock-read-complete-spec : {M : Type 1} → statement M
+dock-read-complete-spec =
+    tie.close
+    (tie.spec reader-of-requires read-complete-requires completion-number-requires returns)

@@ -1,0 +1,29 @@
+use Rattle.dock.specs.Answers.{afterMode}
+use mathlib.Core.Path.{ap, _∙_}
+use Rattle.modes.specs.Calls.{modeNumber, modeOutput}
+use Rattle.modes.specs.declared.ModeAnswer.{ModeAnswer}
+use borrow.Author.Needs.{needs}
+use Rattle.dock.proofs.moded.Statement.{statement}
+use Rattle.dock.proofs.moded.Tie as tie
+
+apply-requires : tie.Need-apply-requires
+apply-requires c κs = search needs
+
+mode-number-requires : tie.Need-mode-number-requires
+mode-number-requires c κs = search needs
+
+same-length : tie.Need-same-length
+same-length c = search needs
+
+returns : tie.Need-returns
+unfolding afterMode
+returns c =
+    let m = c .before .before .before in
+    let a = m .before .before .before .before .before .before .args in
+    let e = m .apply .ensures in (
+      c .mode-number .ensures ∙ ap modeNumber (e .0),
+      e .1 ∙ ap (λ (x : ModeAnswer). modeOutput x (a .operation) (a .key .now) (a .iv .now) (a .input .now) (a .output .now)) (e .0),
+    )
+
+pub moded-spec : {M : Type 1} → statement M
+moded-spec = tie.close (tie.spec apply-requires mode-number-requires same-length returns)

@@ -1,0 +1,110 @@
+-- The answers as C has them: numbers in place of enums, and a reader's state flat. Assumes nothing: these are definitions.
+use Prim.Native.Nat.{ℕ}
+use mathlib.Core.Bool.{Bool, not}
+use mathlib.Core.List.{List}
+use lib.Dec.{eqb}
+use lib.ListN.{getD}
+use Rattle.octets.specs.Octets.{choose}
+use Rattle.schedule.specs.Schedule.{keyNumber}
+use Rattle.schedule.specs.declared.Expanded.{Expanded}
+use Rattle.cipher.specs.declared.Ciphered.{Ciphered}
+use Rattle.modes.specs.Calls.{modeAnswer, modeOutput}
+use Rattle.sp800_38a.specs.declared.Operation.{Operation}
+use Rattle.cmac.specs.declared.Checked.{Checked}
+use Rattle.cmac.specs.declared.Started.{Started}
+use Rattle.header.specs.Rules.{reasonNumber, reasonValue}
+use Rattle.image.specs.Calls.{stopNumber}
+use Rattle.image.specs.declared.Reader.{Reader}
+use Rattle.image.specs.declared.ReadStarted.{ReadStarted}
+use Rattle.image.specs.declared.Stop.{Stop}
+use Rattle.image.specs.declared.Stop.the-variants.{End, Asked, Lent, Room, At}
+use Rattle.image.specs.declared.Turn.{Turn}
+use Rattle.dock.specs.declared.ScheduleAnswer.{ScheduleAnswer}
+use Rattle.dock.specs.declared.BlockAnswer.{BlockAnswer}
+use Rattle.dock.specs.declared.CheckAnswer.{CheckAnswer}
+use Rattle.dock.specs.declared.StartAnswer.{StartAnswer}
+use Rattle.dock.specs.declared.ReaderState.{ReaderState}
+use Rattle.dock.specs.declared.ReadStartAnswer.{ReadStartAnswer}
+use Rattle.dock.specs.declared.TurnAnswer.{TurnAnswer}
+use Rattle.dock.specs.declared.numbers.Told.{Told}
+
+-- ---- key schedule, block, modes, check
+
+abbrev pub scheduleAnswer : Expanded → ScheduleAnswer
+scheduleAnswer e = record { number = keyNumber (e .answer); words = e .schedule .words; rounds = e .schedule .rounds }
+
+abbrev pub blockAnswer : Ciphered → BlockAnswer
+blockAnswer c = record { number = keyNumber (c .answer); block = c .block }
+
+-- the output after a call of a mode
+unfoldable pub afterMode : Operation → (key iv inp out : List ℕ) → List ℕ
+afterMode o key iv inp out = modeOutput (modeAnswer o key iv inp out) o key iv inp out
+
+abbrev pub checkAnswer : Checked → CheckAnswer
+checkAnswer c = record { number = keyNumber (c .answer); check = c .check }
+
+abbrev pub startAnswer : Started → StartAnswer
+startAnswer s = record { number = keyNumber (s .answer); «record» = s .«record» }
+
+-- closing refuses nothing
+abbrev pub closeAnswer : List ℕ → CheckAnswer
+closeAnswer c = record { number = 0; check = c }
+
+-- ---- a reader's state
+
+-- yes and no as they are made; read back, every number but 0 is yes
+abbrev pub flagOf : Bool → ℕ
+flagOf b = choose b 1 0
+
+-- the reader that a state stands for
+abbrev pub readerOf : ReaderState → Reader
+readerOf s = record {
+  enc = record { words = s .encwords; rounds = s .encrounds };
+  chk = record { words = s .chkwords; rounds = s .chkrounds };
+  progress = record { next = s .next; fixed = not (eqb (s .fixed) 0); count = s .count; release = s .release };
+}
+
+-- the state that stands for a reader
+abbrev pub stateOf : Reader → ReaderState
+stateOf r = record {
+  encwords = r .enc .words;
+  encrounds = r .enc .rounds;
+  chkwords = r .chk .words;
+  chkrounds = r .chk .rounds;
+  next = r .progress .next;
+  fixed = flagOf (r .progress .fixed);
+  count = r .progress .count;
+  release = r .progress .release;
+}
+
+abbrev pub readStartAnswer : ReadStarted → ReadStartAnswer
+readStartAnswer s = record { number = keyNumber (s .answer); reader = stateOf (s .reader) }
+
+-- ---- a turn
+
+-- the value that a refusal holds, 0 where it holds none
+abbrev pub valueHeld : List ℕ → ℕ
+valueHeld v = getD v 0 0
+
+-- a turn that no block stopped, by its number
+abbrev pub noBlock : ℕ → Told
+noBlock n = record { number = n; reason = 0; value = 0; place = 0 }
+
+-- a refusal of the whole turn has the number; that of a block is the reason
+abbrev pub toldOf : Stop → Told
+toldOf End = noBlock (stopNumber End)
+toldOf Asked = noBlock (stopNumber Asked)
+toldOf Lent = noBlock (stopNumber Lent)
+toldOf Room = noBlock (stopNumber Room)
+toldOf (At place reason) = record { number = 0; reason = reasonNumber reason; value = valueHeld (reasonValue reason); place = place }
+
+abbrev pub turnAnswer : Turn → TurnAnswer
+turnAnswer t = record {
+  number = toldOf (t .stop) .number;
+  reason = toldOf (t .stop) .reason;
+  value = toldOf (t .stop) .value;
+  place = toldOf (t .stop) .place;
+  accepted = t .accepted;
+  bytes = t .bytes;
+  reader = stateOf (t .reader);
+}

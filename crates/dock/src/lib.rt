@@ -1,0 +1,344 @@
+// What C links: the calls on slices and numbers, with structs by value and the refusals' numbers in place of enums.
+mod numbers;
+mod states;
+
+use crate::numbers::completion_number;
+use crate::numbers::how_stopped;
+use crate::numbers::key_number;
+use crate::numbers::mode_number;
+use crate::numbers::wrap_number;
+use crate::numbers::write_number;
+use crate::states::reader_of;
+use crate::states::state_of;
+use cipher::Ciphered;
+use cmac::Record;
+use image::Turn;
+use schedule::KeySchedule;
+use sp800_38a::Operation;
+ghost use mathlib.Core.Path.{_≡_};
+ghost use Rattle.field.specs.Field.{_•_};
+ghost use Rattle.sbox.specs.Sbox.{sBox};
+ghost use Rattle.schedule.specs.Schedule.{scheduleOf};
+ghost use Rattle.cipher.specs.Calls.{encryptUnder, decryptUnder};
+ghost use Rattle.sp800_38a.specs.declared.Operation.the-variants.{EcbEncrypt, EcbDecrypt, CbcEncrypt, CbcDecrypt, CfbEncrypt, CfbDecrypt, OfbEncrypt, OfbDecrypt};
+ghost use Rattle.modes.specs.Calls.{modeNumber, modeAnswer};
+ghost use Rattle.cmac.specs.Calls.{checkOf, startOf, fedWith, closeOf};
+ghost use Rattle.image.specs.Calls as image;
+ghost use Rattle.wrap.specs.Calls.{wrapNumber, wrapAnswer, wrapOutput, unwrapAnswer, unwrapOutput};
+ghost use Rattle.dock.specs.Answers.{scheduleAnswer, blockAnswer, afterMode, checkAnswer, startAnswer, closeAnswer, readerOf, readStartAnswer, turnAnswer};
+
+// Sixteen bytes by value: C passes no array so.
+#[repr(C)]
+pub struct Block {
+    pub bytes: [u8; 16],
+}
+
+// In the answers a number other than 0 is a refusal's; beside that of a refused key there are zeros.
+#[repr(C)]
+pub struct ScheduleAnswer {
+    pub number: u32,
+    pub words: [u32; 60],
+    pub rounds: usize,
+}
+
+#[repr(C)]
+pub struct BlockAnswer {
+    pub number: u32,
+    pub block: [u8; 16],
+}
+
+#[repr(C)]
+pub struct CheckAnswer {
+    pub number: u32,
+    pub check: [u8; 16],
+}
+
+#[repr(C)]
+pub struct StartAnswer {
+    pub number: u32,
+    pub record: Record,
+}
+
+// A reader, flat: its two schedules, and how far it has come. Of `fixed`, 0 is no and every other value is yes; the calls give
+// back 0 or 1.
+#[repr(C)]
+pub struct ReaderState {
+    pub encwords: [u32; 60],
+    pub encrounds: usize,
+    pub chkwords: [u32; 60],
+    pub chkrounds: usize,
+    pub next: u32,
+    pub fixed: u32,
+    pub count: u32,
+    pub release: u32,
+}
+
+#[repr(C)]
+pub struct ReadStartAnswer {
+    pub number: u32,
+    pub reader: ReaderState,
+}
+
+// What a turn did. `number` is that of a refusal of the whole turn; a block that stopped it has its place and reason, and the
+// value that the reason holds. There are zeros where there is none.
+#[repr(C)]
+pub struct TurnAnswer {
+    pub number: u32,
+    pub reason: u32,
+    pub value: u32,
+    pub place: usize,
+    pub accepted: usize,
+    pub bytes: usize,
+    pub reader: ReaderState,
+}
+
+#[no_mangle]
+pub extern "C" fn dock_product(a: u8, b: u8) -> u8
+    ensures { λ r. ⌜ r ≡ a • b ⌝ }
+{
+    field::product(a, b)
+}
+
+#[no_mangle]
+pub extern "C" fn dock_schedule(key: &[u8]) -> ScheduleAnswer
+    ensures { λ r. ⌜ r ≡ scheduleAnswer (scheduleOf sBox (now (key .entry))) ⌝ }
+{
+    let made = KeySchedule::new(key);
+    let answer = made.answer;
+    let schedule = made.schedule;
+    let words = schedule.words;
+    ScheduleAnswer {
+        number: key_number(answer),
+        words,
+        rounds: schedule.rounds,
+    }
+}
+
+#[no_mangle]
+pub extern "C" fn dock_encrypt(key: &[u8], block: Block) -> BlockAnswer
+    ensures { λ r. ⌜ r ≡ blockAnswer (encryptUnder (now (key .entry)) (block .bytes)) ⌝ }
+{
+    let bytes = block.bytes;
+    block_answer(cipher::encrypt(key, bytes))
+}
+
+#[no_mangle]
+pub extern "C" fn dock_decrypt(key: &[u8], block: Block) -> BlockAnswer
+    ensures { λ r. ⌜ r ≡ blockAnswer (decryptUnder (now (key .entry)) (block .bytes)) ⌝ }
+{
+    let bytes = block.bytes;
+    block_answer(cipher::decrypt(key, bytes))
+}
+
+// The modes: the IV is empty in ECB and 16 bytes in the others.
+#[no_mangle]
+pub extern "C" fn dock_ecb_encrypt(key: &[u8], iv: &[u8], input: &[u8], output: &mut [u8]) -> u32
+    ensures answer { λ r. ⌜ r ≡ modeNumber (modeAnswer EcbEncrypt (now (key .entry)) (now (iv .entry)) (now (input .entry)) (now (output .entry))) ⌝ }
+    ensures written { λ _. ⌜ now (output .exit) ≡ afterMode EcbEncrypt (now (key .entry)) (now (iv .entry)) (now (input .entry)) (now (output .entry)) ⌝ }
+{
+    moded(Operation::EcbEncrypt, key, iv, input, output)
+}
+
+#[no_mangle]
+pub extern "C" fn dock_ecb_decrypt(key: &[u8], iv: &[u8], input: &[u8], output: &mut [u8]) -> u32
+    ensures answer { λ r. ⌜ r ≡ modeNumber (modeAnswer EcbDecrypt (now (key .entry)) (now (iv .entry)) (now (input .entry)) (now (output .entry))) ⌝ }
+    ensures written { λ _. ⌜ now (output .exit) ≡ afterMode EcbDecrypt (now (key .entry)) (now (iv .entry)) (now (input .entry)) (now (output .entry)) ⌝ }
+{
+    moded(Operation::EcbDecrypt, key, iv, input, output)
+}
+
+#[no_mangle]
+pub extern "C" fn dock_cbc_encrypt(key: &[u8], iv: &[u8], input: &[u8], output: &mut [u8]) -> u32
+    ensures answer { λ r. ⌜ r ≡ modeNumber (modeAnswer CbcEncrypt (now (key .entry)) (now (iv .entry)) (now (input .entry)) (now (output .entry))) ⌝ }
+    ensures written { λ _. ⌜ now (output .exit) ≡ afterMode CbcEncrypt (now (key .entry)) (now (iv .entry)) (now (input .entry)) (now (output .entry)) ⌝ }
+{
+    moded(Operation::CbcEncrypt, key, iv, input, output)
+}
+
+#[no_mangle]
+pub extern "C" fn dock_cbc_decrypt(key: &[u8], iv: &[u8], input: &[u8], output: &mut [u8]) -> u32
+    ensures answer { λ r. ⌜ r ≡ modeNumber (modeAnswer CbcDecrypt (now (key .entry)) (now (iv .entry)) (now (input .entry)) (now (output .entry))) ⌝ }
+    ensures written { λ _. ⌜ now (output .exit) ≡ afterMode CbcDecrypt (now (key .entry)) (now (iv .entry)) (now (input .entry)) (now (output .entry)) ⌝ }
+{
+    moded(Operation::CbcDecrypt, key, iv, input, output)
+}
+
+#[no_mangle]
+pub extern "C" fn dock_cfb_encrypt(key: &[u8], iv: &[u8], input: &[u8], output: &mut [u8]) -> u32
+    ensures answer { λ r. ⌜ r ≡ modeNumber (modeAnswer CfbEncrypt (now (key .entry)) (now (iv .entry)) (now (input .entry)) (now (output .entry))) ⌝ }
+    ensures written { λ _. ⌜ now (output .exit) ≡ afterMode CfbEncrypt (now (key .entry)) (now (iv .entry)) (now (input .entry)) (now (output .entry)) ⌝ }
+{
+    moded(Operation::CfbEncrypt, key, iv, input, output)
+}
+
+#[no_mangle]
+pub extern "C" fn dock_cfb_decrypt(key: &[u8], iv: &[u8], input: &[u8], output: &mut [u8]) -> u32
+    ensures answer { λ r. ⌜ r ≡ modeNumber (modeAnswer CfbDecrypt (now (key .entry)) (now (iv .entry)) (now (input .entry)) (now (output .entry))) ⌝ }
+    ensures written { λ _. ⌜ now (output .exit) ≡ afterMode CfbDecrypt (now (key .entry)) (now (iv .entry)) (now (input .entry)) (now (output .entry)) ⌝ }
+{
+    moded(Operation::CfbDecrypt, key, iv, input, output)
+}
+
+#[no_mangle]
+pub extern "C" fn dock_ofb_encrypt(key: &[u8], iv: &[u8], input: &[u8], output: &mut [u8]) -> u32
+    ensures answer { λ r. ⌜ r ≡ modeNumber (modeAnswer OfbEncrypt (now (key .entry)) (now (iv .entry)) (now (input .entry)) (now (output .entry))) ⌝ }
+    ensures written { λ _. ⌜ now (output .exit) ≡ afterMode OfbEncrypt (now (key .entry)) (now (iv .entry)) (now (input .entry)) (now (output .entry)) ⌝ }
+{
+    moded(Operation::OfbEncrypt, key, iv, input, output)
+}
+
+#[no_mangle]
+pub extern "C" fn dock_ofb_decrypt(key: &[u8], iv: &[u8], input: &[u8], output: &mut [u8]) -> u32
+    ensures answer { λ r. ⌜ r ≡ modeNumber (modeAnswer OfbDecrypt (now (key .entry)) (now (iv .entry)) (now (input .entry)) (now (output .entry))) ⌝ }
+    ensures written { λ _. ⌜ now (output .exit) ≡ afterMode OfbDecrypt (now (key .entry)) (now (iv .entry)) (now (input .entry)) (now (output .entry)) ⌝ }
+{
+    moded(Operation::OfbDecrypt, key, iv, input, output)
+}
+
+#[no_mangle]
+pub extern "C" fn dock_check(key: &[u8], message: &[u8]) -> CheckAnswer
+    ensures { λ r. ⌜ r ≡ checkAnswer (checkOf (now (key .entry)) (now (message .entry))) ⌝ }
+{
+    let c = cmac::check(key, message);
+    let answer = c.answer;
+    let check = c.check;
+    CheckAnswer {
+        number: key_number(answer),
+        check,
+    }
+}
+
+#[no_mangle]
+pub extern "C" fn dock_check_start(key: &[u8]) -> StartAnswer
+    ensures { λ r. ⌜ r ≡ startAnswer (startOf (now (key .entry))) ⌝ }
+{
+    let s = cmac::start(key);
+    let answer = s.answer;
+    let record = s.record;
+    StartAnswer {
+        number: key_number(answer),
+        record,
+    }
+}
+
+// The record by value; `cmac_feed`, which stands with the check itself, feeds one on the spot.
+#[no_mangle]
+pub extern "C" fn dock_check_feed(record: Record, part: &[u8]) -> Record
+    ensures { λ r. ⌜ r ≡ fedWith «record» (now (part .entry)) ⌝ }
+{
+    cmac::fed_with(record, part)
+}
+
+#[no_mangle]
+pub extern "C" fn dock_check_close(record: Record) -> CheckAnswer
+    ensures { λ r. ⌜ r ≡ closeAnswer (closeOf «record») ⌝ }
+{
+    let check = cmac::close(record);
+    CheckAnswer { number: 0, check }
+}
+
+#[no_mangle]
+pub extern "C" fn dock_write(
+    ekey: &[u8],
+    ckey: &[u8],
+    number: u32,
+    count: u32,
+    release: u32,
+    payload: &[u8],
+    output: &mut [u8],
+) -> u32
+    ensures answer { λ r. ⌜ r ≡ image.writeNumber (image.writeAnswer (now (ekey .entry)) (now (ckey .entry)) number count (now (payload .entry)) (now (output .entry))) ⌝ }
+    ensures written { λ _. ⌜ now (output .exit) ≡ image.writeOutput (image.writeAnswer (now (ekey .entry)) (now (ckey .entry)) number count (now (payload .entry)) (now (output .entry))) (now (ekey .entry)) (now (ckey .entry)) number count release (now (payload .entry)) (now (output .entry)) ⌝ }
+{
+    let answer = image::write(ekey, ckey, number, count, release, payload, output);
+    write_number(answer)
+}
+
+#[no_mangle]
+pub extern "C" fn dock_read_start(ekey: &[u8], ckey: &[u8]) -> ReadStartAnswer
+    ensures { λ r. ⌜ r ≡ readStartAnswer (image.startOf (now (ekey .entry)) (now (ckey .entry))) ⌝ }
+{
+    let s = image::read_start(ekey, ckey);
+    let answer = s.answer;
+    let reader = s.reader;
+    ReadStartAnswer {
+        number: key_number(answer),
+        reader: state_of(reader),
+    }
+}
+
+#[no_mangle]
+pub extern "C" fn dock_read_turn(
+    reader: ReaderState,
+    blocks: &[u8],
+    asked: usize,
+    output: &mut [u8],
+) -> TurnAnswer
+    ensures answer { λ r. ⌜ r ≡ turnAnswer (image.turnOf (readerOf reader) (now (blocks .entry)) asked (now (output .entry)) .0) ⌝ }
+    ensures written { λ _. ⌜ now (output .exit) ≡ image.turnOf (readerOf reader) (now (blocks .entry)) asked (now (output .entry)) .1 ⌝ }
+{
+    let t = image::read_turn(reader_of(reader), blocks, asked, output);
+    turn_answer(t)
+}
+
+#[no_mangle]
+pub extern "C" fn dock_read_complete(reader: ReaderState) -> u32
+    ensures { λ r. ⌜ r ≡ image.completionNumber (image.completionOf (readerOf reader)) ⌝ }
+{
+    let answer = image::read_complete(reader_of(reader));
+    completion_number(answer)
+}
+
+#[no_mangle]
+pub extern "C" fn dock_wrap(key: &[u8], data: &[u8], output: &mut [u8]) -> u32
+    ensures answer { λ r. ⌜ r ≡ wrapNumber (wrapAnswer (now (key .entry)) (now («data» .entry)) (now (output .entry))) ⌝ }
+    ensures written { λ _. ⌜ now (output .exit) ≡ wrapOutput (wrapAnswer (now (key .entry)) (now («data» .entry)) (now (output .entry))) (now (key .entry)) (now («data» .entry)) (now (output .entry)) ⌝ }
+{
+    let answer = wrap::wrap(key, data, output);
+    wrap_number(answer)
+}
+
+#[no_mangle]
+pub extern "C" fn dock_unwrap(key: &[u8], data: &[u8], output: &mut [u8]) -> u32
+    ensures answer { λ r. ⌜ r ≡ wrapNumber (unwrapAnswer (now (key .entry)) (now («data» .entry)) (now (output .entry))) ⌝ }
+    ensures written { λ _. ⌜ now (output .exit) ≡ unwrapOutput (unwrapAnswer (now (key .entry)) (now («data» .entry)) (now (output .entry))) (now (key .entry)) (now («data» .entry)) (now (output .entry)) ⌝ }
+{
+    let answer = wrap::unwrap(key, data, output);
+    wrap_number(answer)
+}
+
+fn block_answer(c: Ciphered) -> BlockAnswer
+    ensures { λ r. ⌜ r ≡ blockAnswer c ⌝ }
+{
+    let answer = c.answer;
+    let block = c.block;
+    BlockAnswer {
+        number: key_number(answer),
+        block,
+    }
+}
+
+fn moded(operation: Operation, key: &[u8], iv: &[u8], input: &[u8], output: &mut [u8]) -> u32
+    ensures answer { λ r. ⌜ r ≡ modeNumber (modeAnswer operation (now (key .entry)) (now (iv .entry)) (now (input .entry)) (now (output .entry))) ⌝ }
+    ensures written { λ _. ⌜ now (output .exit) ≡ afterMode operation (now (key .entry)) (now (iv .entry)) (now (input .entry)) (now (output .entry)) ⌝ }
+{
+    let answer = modes::apply(operation, key, iv, input, output);
+    mode_number(answer)
+}
+
+fn turn_answer(t: Turn) -> TurnAnswer
+    ensures { λ r. ⌜ r ≡ turnAnswer t ⌝ }
+{
+    let stop = t.stop;
+    let reader = t.reader;
+    let told = how_stopped(stop);
+    TurnAnswer {
+        number: told.number,
+        reason: told.reason,
+        value: told.value,
+        place: told.place,
+        accepted: t.accepted,
+        bytes: t.bytes,
+        reader: state_of(reader),
+    }
+}
