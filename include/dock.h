@@ -1,8 +1,8 @@
 // The library's calls for C and C++: AES, its modes, the check (CMAC), release images and the key wrap.
 //
-// Building and linking. `rt staticlib dock && rt staticlib cmac` proves the library and writes target/staticlib/libdock.a and
-// libcmac.a, for x86-64 Linux. libdock.a has every call below but cmac_feed, which is in libcmac.a. Both use memcpy and memset and
-// nothing else: no heap, no file, no memory of their own that is written. So calls may run in several threads at once.
+// Building and linking. `rt staticlib dock` proves the library and writes target/staticlib/libdock.a, for x86-64 Linux. It has every
+// call below, and uses memcpy and memset and nothing else: no heap, no file, no memory of its own that is written. So calls may run in
+// several threads at once.
 //
 // Answers. Every call ends, and every input has one answer, the same each time: 0 where the call was carried out, or the number of
 // a refusal (enum below; docs/REFUSALS.md says what to do next). A refused call leaves every byte that was lent to it as it was, and
@@ -15,14 +15,14 @@
 // - An output overlaps no other memory that the same call is lent, inputs and record alike: nothing works in place. Inputs may
 //   overlap each other, and the two keys may be the same memory. The bytes of an output may be anything before the call.
 // - Nobody else writes any of it during the call, or reads an output.
-// - The record lent to cmac_feed is aligned as its type asks. Bytes are lent at any alignment.
+// - The record lent to dock_check_feed is aligned as its type asks. Bytes are lent at any alignment.
 //
 // Records and readers are plain values: they may be copied, stored and compared field by field, and hold no pointer. Any bytes in
 // them get a stated answer, also those that no start made: with a number of rounds that is not 10, 12 or 14 a record's check is
 // sixteen zeros, and a reader accepts no block.
 //
 // Key material. Schedules, records and readers hold expanded keys, from which the keys follow. Overwrite them when they are done
-// with. Calls by value leave copies on the stack below the caller, and no call overwrites those.
+// with. Calls leave copies on the stack below the caller, and no call overwrites those.
 //
 // Time. Nothing is promised of how long a call takes: it may depend on keys and data.
 #ifndef DOCK_H
@@ -145,11 +145,8 @@ dock_check_answer dock_check(const uint8_t *key, size_t key_length, const uint8_
 // A record to which nothing has been fed. Refused by 1, with the zero record, whose check is sixteen zeros whatever is fed.
 dock_start_answer dock_check_start(const uint8_t *key, size_t key_length);
 
-// The record that has taken the part in besides; the one given stays. It refuses nothing, and a part may be empty.
-dock_record dock_check_feed(dock_record record, const uint8_t *part, size_t length);
-
-// The same on the spot: the record that was lent has taken the part in. From libcmac.a.
-void cmac_feed(dock_record *record, const uint8_t *part, size_t length);
+// The record that is lent takes the part in, on the spot. It refuses nothing, and a part may be empty.
+void dock_check_feed(dock_record *record, const uint8_t *part, size_t length);
 
 // The check of all that was fed, however it was cut into parts. The number is 0: nothing is refused. The record stays as it is, so
 // that it can be fed on and closed again.

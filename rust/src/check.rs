@@ -29,13 +29,13 @@ impl Check {
     /// Takes a part in, on the spot.
     pub fn feed(&mut self, part: &[u8]) {
         // SAFETY: the record is lent by `&mut`, and pointer and length are those of a slice, which does not overlap it.
-        unsafe { sys::cmac_feed(&mut self.0, part.as_ptr(), part.len()) }
+        unsafe { sys::dock_check_feed(&mut self.0, part.as_ptr(), part.len()) }
     }
 
     /// The check that has taken the part in besides, as for a fold over parts.
-    pub fn fed(self, part: &[u8]) -> Check {
-        // SAFETY: pointer and length are those of a slice.
-        Check(unsafe { sys::dock_check_feed(self.0, part.as_ptr(), part.len()) })
+    pub fn fed(mut self, part: &[u8]) -> Check {
+        self.feed(part);
+        self
     }
 
     /// The check of all that was fed. It can be fed on and closed again.

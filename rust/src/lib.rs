@@ -17,8 +17,8 @@
 //! # Ok::<(), dock::Refusal>(())
 //! ```
 //!
-//! The archives are for x86-64 Linux: `rt staticlib dock && rt staticlib cmac` writes them to target/staticlib, where the build
-//! script looks for them, or in the folder that DOCK_LIBS names.
+//! The archive is for x86-64 Linux: `rt staticlib dock` writes it to target/staticlib, where the build script looks for it, or in the
+//! folder that DOCK_LIBS names.
 //!
 //! [`Schedule`], [`Check`] and [`Reader`] hold expanded keys, and calls leave copies of these on the stack: nothing here overwrites
 //! them. Nothing is promised of how long a call takes.

@@ -162,8 +162,7 @@ extern "C" {
 
     pub fn dock_check(key: *const u8, key_length: usize, message: *const u8, length: usize) -> CheckAnswer;
     pub fn dock_check_start(key: *const u8, key_length: usize) -> StartAnswer;
-    pub fn dock_check_feed(record: Record, part: *const u8, length: usize) -> Record;
-    pub fn cmac_feed(record: *mut Record, part: *const u8, length: usize);
+    pub fn dock_check_feed(record: *mut Record, part: *const u8, length: usize);
     pub fn dock_check_close(record: Record) -> CheckAnswer;
 
     pub fn dock_write(

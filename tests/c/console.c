@@ -140,19 +140,15 @@ static bool check_start(const form *f, const word *w) {
     return true;
 }
 
-// By value and on the spot, which must come to the same.
+// On the spot, and so between canaries.
 static bool check_feed(const form *f, const word *w) {
     (void)f;
     const lent *part = input(w[0]);
     if (!part) return false;
-    dock_record before = record;
-    dock_record fed = dock_check_feed(record, part->bytes, part->length);
-    expect(memcmp(&record, &before, sizeof record) == 0, "feeding by value changes the record that it was given");
     lent *spot = lent_room(sizeof record, _Alignof(dock_record));
     memcpy(spot->bytes, &record, sizeof record);
-    cmac_feed((dock_record *)(void *)spot->bytes, part->bytes, part->length);
-    expect(memcmp(&fed, spot->bytes, sizeof fed) == 0, "feeding by value and on the spot differ");
-    record = fed;
+    dock_check_feed((dock_record *)(void *)spot->bytes, part->bytes, part->length);
+    memcpy(&record, spot->bytes, sizeof record);
     put_number(0);
     return true;
 }

@@ -20,7 +20,7 @@ uint32_t __real_dock_unwrap(const uint8_t *, size_t, const uint8_t *, size_t, ui
 dock_check_answer __real_dock_check(const uint8_t *, size_t, const uint8_t *, size_t);
 dock_block_answer __real_dock_decrypt(const uint8_t *, size_t, dock_block);
 dock_block_answer __real_dock_encrypt(const uint8_t *, size_t, dock_block);
-void __real_cmac_feed(dock_record *, const uint8_t *, size_t);
+void __real_dock_check_feed(dock_record *, const uint8_t *, size_t);
 dock_turn_answer __real_dock_read_turn(dock_reader, const uint8_t *, size_t, size_t, uint8_t *, size_t);
 
 // 1: the byte behind the output.
@@ -59,9 +59,9 @@ dock_block_answer __wrap_dock_encrypt(const uint8_t *key, size_t key_length, doc
 }
 
 // 6: the byte behind a record.
-void __wrap_cmac_feed(dock_record *record, const uint8_t *part, size_t length) {
+void __wrap_dock_check_feed(dock_record *record, const uint8_t *part, size_t length) {
     if (made(6)) flip((uint8_t *)record + sizeof *record);
-    __real_cmac_feed(record, part, length);
+    __real_dock_check_feed(record, part, length);
 }
 
 // 7: the output of a call that was refused because of the data.

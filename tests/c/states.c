@@ -47,10 +47,12 @@ static void one_record(void) {
     fill(&record, sizeof record);
     record.rounds = some_number();
     record.count = some_number();
-    dock_record fed = dock_check_feed(record, part, drawn() % sizeof part), spot = fed;
-    cmac_feed(&spot, part, 50);
-    fed = dock_check_feed(fed, part, 50);
-    expect(memcmp(&fed, &spot, sizeof fed) == 0, "feeding by value and on the spot differ");
+    dock_record fed = record, cut = record;
+    size_t first = drawn() % sizeof part;
+    dock_check_feed(&fed, part, sizeof part);
+    dock_check_feed(&cut, part, first);
+    dock_check_feed(&cut, part + first, sizeof part - first);
+    expect(memcmp(&fed, &cut, sizeof fed) == 0, "feeding at once and in two parts differ");
     expect(memcmp(fed.words, record.words, sizeof fed.words) == 0 && fed.rounds == record.rounds, "feeding changes a schedule");
     expect(fed.count >= 1 && fed.count <= 16, "more than a piece is held");
     dock_check_answer answer = dock_check_close(fed);

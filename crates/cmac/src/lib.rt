@@ -66,14 +66,6 @@ pub fn fed_with(record: Record, part: &[u8]) -> Record
     record_of(words, record.rounds, run)
 }
 
-// The same on the spot, for whoever keeps one record; its name is the symbol that C links.
-#[no_mangle]
-pub extern "C" fn cmac_feed(record: &mut Record, part: &[u8])
-    ensures { λ _. ⌜ now («record» .exit) ≡ calls.fedWith (now («record» .entry)) (now (part .entry)) ⌝ }
-{
-    *record = fed_with(*record, part);
-}
-
 // The check of all that was fed. The record stays as it is, and can be fed on.
 pub fn close(record: Record) -> [u8; 16]
     ensures { λ r. ⌜ r ≡ calls.closeOf «record» ⌝ }

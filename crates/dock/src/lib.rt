@@ -1,4 +1,5 @@
-// What C links: the calls on slices and numbers, with structs by value and the refusals' numbers in place of enums.
+// What C links: the calls on slices and numbers, with the refusals' numbers in place of enums, and structs by value but for the
+// record of a running check, which is lent to be fed.
 mod numbers;
 mod states;
 
@@ -221,12 +222,12 @@ pub extern "C" fn dock_check_start(key: &[u8]) -> StartAnswer
     }
 }
 
-// The record by value; `cmac_feed`, which stands with the check itself, feeds one on the spot.
+// On the spot: the record that is lent has taken the part in.
 #[no_mangle]
-pub extern "C" fn dock_check_feed(record: Record, part: &[u8]) -> Record
-    ensures { λ r. ⌜ r ≡ fedWith «record» (now (part .entry)) ⌝ }
+pub extern "C" fn dock_check_feed(record: &mut Record, part: &[u8])
+    ensures { λ _. ⌜ now («record» .exit) ≡ fedWith (now («record» .entry)) (now (part .entry)) ⌝ }
 {
-    cmac::fed_with(record, part)
+    *record = cmac::fed_with(*record, part);
 }
 
 #[no_mangle]

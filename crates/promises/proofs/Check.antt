@@ -101,8 +101,6 @@ last-asks-nothing κs a = tt
 pub last-determined : (κs : _) (a : _) (r r′ : _) (s s′ : _) → last.Post κs a r s → last.Post κs a r′ s′ → r ≡ r′
 last-determined κs a r r′ s s′ p q = p ∙ sym q
 
--- exception: cmac::cmac_feed: it is lent the record by `&mut`, for which no `Reads` is made; its contract is the one equation that the record at exit is `fedWith` of the record at entry and of the part, so two outcomes agree as those of `fed_with` do
-
 -- ---- demand 2: the check is CMAC of SP 800-38B under AES of the key
 
 -- AES of FIPS 197 under a key of Nk words, for Nr rounds

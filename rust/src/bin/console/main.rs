@@ -81,7 +81,7 @@ impl Console {
         Some(number.to_string())
     }
 
-    /// On the spot and by value, which must come to the same.
+    /// On the spot, and as the step of a fold, which must come to the same.
     fn check_feed(&mut self, part: &[u8]) -> Option<String> {
         let part = input(part)?;
         let fed = self.held.check.clone().fed(&part);
@@ -93,7 +93,7 @@ impl Console {
             stop("a byte around a record has changed");
         }
         if fed.close() != self.held.check.close() {
-            stop("feeding by value and on the spot differ");
+            stop("feeding a copy and feeding on the spot differ");
         }
         Some("0".to_string())
     }

@@ -1,4 +1,4 @@
--- `cmac::cmac_feed` meets its contract: a walk of its MIR, by hand. The borrow is opened, the record is copied out, `fed_with` is called on it, its result is stored where the record lies, and the borrow is closed at it.
+-- `dock::dock_check_feed` meets its contract: a walk of its MIR, by hand. The borrow is opened, the record is copied out, `fed_with` is called on it, its result is stored where the record lies, and the borrow is closed at it.
 -- All that the proof knows of `fed_with` is that it meets its contract.
 -- Assumes nothing.
 use mathlib.Core.Path.{_≡_, refl}
@@ -40,18 +40,18 @@ use denote.Triple.Spec.{Meets, tripleOf}
 use denote.Triple.Table.{entered, cited}
 use denote.Triple.Walked.{says, Stays, stay-ref, stay-none-slice, walkOf, goes-ref, goes-none-slice, Walks, ends-at, walked, walk-meets}
 use denote.Exit.{yes}
 use Rattle.cmac.specs.Calls.{fedWith}
 use Rattle.cmac.specs.declared.Record.{Record}
 use Rattle.cmac.proofs.Record as T
 use Rattle.cmac.proofs.Record.Laws as T′
 use Rattle.cmac.proofs.fed_with as fed-with
 use Rattle.cmac.proofs.fed_with.Symbol as fed-with-def
 use Rattle.cmac.proofs.fed_with.Symbol.{name as #cmac·fed-with}
 use Rattle.cmac.proofs.fed_with.Met as fed-with-thm
-use Rattle.cmac.proofs.cmac_feed.Key.{name as #cmac·feed}
-use Rattle.cmac.proofs.cmac_feed as feed
-use Rattle.cmac.proofs.cmac_feed.Statement as stated
-use Rattle.cmac.proofs.cmac_feed.Code as code
+use Rattle.dock.proofs.dock_check_feed.Key.{name as #dock·check-feed}
+use Rattle.dock.proofs.dock_check_feed as feed
+use Rattle.dock.proofs.dock_check_feed.Statement as stated
+use Rattle.dock.proofs.dock_check_feed.Code as code
 
 abbrev R : RattleType
 R = T.the-row
@@ -145,10 +145,10 @@ feed-meets 𝓤 H A W mem run 𝓣 known =
     walk-meets 𝓤 H A feed.ended stayed W (goes-ref 𝓤 H A W 2 0 tt (plain (λ _. R)), (goes-none-slice 𝓤 H A W 2 (1 ∷ []) tt (plain (λ _. u8)) yes, tt)) (feed.clauses 𝓤 H A mem run)
     (WpFn 𝓤 H (𝓣 .C) (𝓣 .Λ) code.function) (WpFn-mono 𝓤 H (W .laws) 𝓣 code.function) (feed-walks 𝓤 H A W mem run (𝓣 .C) (𝓣 .Λ) (fmOf 𝓤 H (W .laws) 𝓣) known)
 
-pub cmac-feed-spec : {M : Type 1} → stated.statement M
+pub dock-check-feed-spec : {M : Type 1} → stated.statement M
 unfolding code.routine tablesOf
-cmac-feed-spec 𝓤 H 𝓜 𝓖 𝓡 =
+dock-check-feed-spec 𝓤 H 𝓜 𝓖 𝓡 =
     entered 𝓤 H (tripleOf 𝓤 H (𝓖 .A) feed.signature (feed.spec 𝓤 H (𝓖 .A) (𝓜 .mem) (𝓡 .run)))
-    (tables 𝓤 H 𝓜 𝓡 code.env .C) (tables 𝓤 H 𝓜 𝓡 code.env .Λ) #cmac·feed code.function (code.unfolded 𝓤 H 𝓜 𝓡)
+    (tables 𝓤 H 𝓜 𝓡 code.env .C) (tables 𝓤 H 𝓜 𝓡 code.env .Λ) #dock·check-feed code.function (code.unfolded 𝓤 H 𝓜 𝓡)
     (feed-meets 𝓤 H (𝓖 .A) (givenOf 𝓤 H 𝓜 𝓖) (𝓜 .mem) (𝓡 .run) (tablesOf 𝓤 H 𝓜 (tables 𝓤 H 𝓜 𝓡 code.env))
     (cited 𝓤 H (FedWith 𝓤 H (𝓖 .A) (𝓜 .mem) (𝓡 .run)) 𝓜 𝓡 code.env #cmac·fed-with fed-with-def.routine code.calls-cmac·fed-with (fed-with-thm.met 𝓤 H 𝓜 𝓖 𝓡)))
