@@ -1,5 +1,6 @@
--- Demand 1 for what C links: each exported call asks nothing of its caller, any two outcomes that its contract allows agree, and a call
--- that answers another number than 0 leaves the output as it was. Then that a reader's state goes to C and comes back. Assumes nothing.
+-- Demand 1 for what C links: each exported call asks nothing of its caller, any two outcomes that its contract allows agree, its answer
+-- is that of the call below it, and one that answers another number than 0 leaves the output as it was. Then that a reader's state goes
+-- to C and comes back. Assumes nothing.
 use mathlib.Core.Path.{_≡_, refl, sym, ap, _∙_}
 use mathlib.Core.Bool.{Bool, true, false, not}
 use mathlib.Core.List.{List}
@@ -11,25 +12,42 @@ use prog.Routine.{Routine}
 use prog.Wp.{Heap}
 use ghost.Atoms.{Atoms}
 use contract.Monad.{Fun, fact, factI, fact-use}
-use denote.Ref.{now}
+use contract.Lifetimes.{Lfts}
+use denote.Ref.{RefT, now}
 use lib.Dec.{eqb}
 use Rattle.modes.specs.Calls.{modeNumber, modeAnswer}
 use Rattle.sp800_38a.specs.declared.Operation.{Operation}
 use Rattle.sp800_38a.specs.declared.Operation.the-variants.{EcbEncrypt, EcbDecrypt, CbcEncrypt, CbcDecrypt, CfbEncrypt, CfbDecrypt, OfbEncrypt, OfbDecrypt}
-use Rattle.modes.proofs.Answers.{kept}
-use Rattle.image.specs.Calls.{startOf, turnOf}
+use Rattle.image.specs.Calls.{startOf, turnOf, writeNumber, completionNumber}
 use Rattle.image.specs.declared.Reader.{Reader}
 use Rattle.image.specs.declared.Stop.{Stop}
 use Rattle.image.specs.declared.Stop.the-variants.{End, Asked, Lent, Room, At}
 use Rattle.image.specs.declared.Turn.{Turn}
-use Rattle.wrap.specs.Calls.{wrapAnswer, unwrapAnswer}
-use Rattle.dock.specs.Answers.{afterMode, flagOf, readerOf, stateOf, toldOf, turnAnswer}
+use Rattle.wrap.specs.Calls.{wrapNumber}
+use Rattle.dock.specs.Answers.{scheduleAnswer, blockAnswer, afterMode, checkAnswer, startAnswer, closeAnswer, flagOf, readerOf, stateOf, readStartAnswer, toldOf, turnAnswer}
 use Rattle.dock.specs.declared.ReaderState.{ReaderState}
 use Rattle.dock.specs.declared.ReadStartAnswer.{ReadStartAnswer}
 use Rattle.dock.specs.declared.TurnAnswer.{TurnAnswer}
 use Rattle.promises.proofs.ImageTerms.{Whole}
-use Rattle.promises.proofs.Image.{write-refusal-keeps, turn-refusal-keeps}
-use Rattle.promises.proofs.WrapLaws.{wrap-keeps, unwrap-keeps}
+use Rattle.promises.proofs.Image.{turn-refusal-keeps}
+use Rattle.promises.proofs.Modes.{apply-refused-keeps}
+use Rattle.promises.proofs.ImageDemands.{write-refused-keeps}
+use Rattle.promises.proofs.WrapDemands.{wrap-refused-keeps, unwrap-refused-keeps}
+use Rattle.field.proofs.product.Reads as product
+use Rattle.schedule.proofs.KeySchedule.new.Reads as new
+use Rattle.cipher.proofs.encrypt.Reads as encrypt
+use Rattle.cipher.proofs.decrypt.Reads as decrypt
+use Rattle.modes.proofs.apply.Reads as apply
+use Rattle.cmac.proofs.check.Reads as check
+use Rattle.cmac.proofs.start.Reads as start
+use Rattle.cmac.proofs.fed_with.Reads as fed-with
+use Rattle.cmac.proofs.close.Reads as close
+use Rattle.image.proofs.write.Reads as write
+use Rattle.image.proofs.read_start.Reads as read-start
+use Rattle.image.proofs.read_turn.Reads as read-turn
+use Rattle.image.proofs.read_complete.Reads as read-complete
+use Rattle.wrap.proofs.wrap.Reads as wrap
+use Rattle.wrap.proofs.unwrap.Reads as unwrap
 use Rattle.dock.proofs.dock_product.Reads as dock-product
 use Rattle.dock.proofs.dock_schedule.Reads as dock-schedule
 use Rattle.dock.proofs.dock_encrypt.Reads as dock-encrypt
@@ -53,6 +71,18 @@ use Rattle.dock.proofs.dock_read_complete.Reads as dock-read-complete
 use Rattle.dock.proofs.dock_wrap.Reads as dock-wrap
 use Rattle.dock.proofs.dock_unwrap.Reads as dock-unwrap
 
+-- ---- an export is the call below it
+
+-- An answer for C is that of the call below: the contract of that call allows some x, and the answer is x with numbers in place of
+-- enums. So whatever is proved of the call below holds of the export.
+abbrev pub AsBelow : {X R : Type 0} → (X → R) → (X → Type 0) → R → Type 0
+AsBelow {X} told below r = (x : X) × below x × (r ≡ told x)
+
+-- what the call below keeps where its number is not 0
+refused-below : {X K : Type 0} {number : X → ℕ} {below : X → Type 0} {r : ℕ} → AsBelow number below r
+    → ((x : X) → below x → (number x ≡ 0 → ⊥) → K) → (r ≡ 0 → ⊥) → K
+refused-below b keeps h = keeps (b .0) (b .1) (λ z. h (b .2 ∙ z))
+
 -- ---- the field, the key schedule and one block
 
 pub dock-product-asks-nothing : (κs : _) (a : _) → dock-product.Asked κs a
@@ -61,11 +91,17 @@ dock-product-asks-nothing κs a = tt
 pub dock-product-determined : (κs : _) (a : _) (r r′ : _) (s s′ : _) → dock-product.Post κs a r s → dock-product.Post κs a r′ s′ → r ≡ r′
 dock-product-determined κs a r r′ s s′ p q = p ∙ sym q
 
+pub dock-product-is-product : (κs : _) (a : _) (r : _) (s : _) → dock-product.Post κs a r s → product.Post κs a r s
+dock-product-is-product κs a r s p = p
+
 pub dock-schedule-asks-nothing : (κs : _) (a : _) → dock-schedule.Asked κs a
 dock-schedule-asks-nothing κs a = tt
 
 pub dock-schedule-determined : (κs : _) (a : _) (r r′ : _) (s s′ : _) → dock-schedule.Post κs a r s → dock-schedule.Post κs a r′ s′ → r ≡ r′
 dock-schedule-determined κs a r r′ s s′ p q = p ∙ sym q
+
+pub dock-schedule-is-new : (κs : _) (a : _) (r : _) (s : _) → dock-schedule.Post κs a r s → AsBelow scheduleAnswer (λ x. new.Post κs a x s) r
+dock-schedule-is-new κs a r s p = (_, refl, p)
 
 pub dock-encrypt-asks-nothing : (κs : _) (a : _) → dock-encrypt.Asked κs a
 dock-encrypt-asks-nothing κs a = tt
@@ -73,17 +109,36 @@ dock-encrypt-asks-nothing κs a = tt
 pub dock-encrypt-determined : (κs : _) (a : _) (r r′ : _) (s s′ : _) → dock-encrypt.Post κs a r s → dock-encrypt.Post κs a r′ s′ → r ≡ r′
 dock-encrypt-determined κs a r r′ s s′ p q = p ∙ sym q
 
+pub dock-encrypt-is-encrypt : (κs : _) (a : _) (r : _) (s : _) → dock-encrypt.Post κs a r s
+    → AsBelow blockAnswer (λ x. encrypt.Post κs (a .0, (a .1 .0 .bytes, tt)) x (s .0, (s .1 .0 .bytes, tt))) r
+dock-encrypt-is-encrypt κs a r s p = (_, refl, p)
+
 pub dock-decrypt-asks-nothing : (κs : _) (a : _) → dock-decrypt.Asked κs a
 dock-decrypt-asks-nothing κs a = tt
 
 pub dock-decrypt-determined : (κs : _) (a : _) (r r′ : _) (s s′ : _) → dock-decrypt.Post κs a r s → dock-decrypt.Post κs a r′ s′ → r ≡ r′
 dock-decrypt-determined κs a r r′ s s′ p q = p ∙ sym q
 
+pub dock-decrypt-is-decrypt : (κs : _) (a : _) (r : _) (s : _) → dock-decrypt.Post κs a r s
+    → AsBelow blockAnswer (λ x. decrypt.Post κs (a .0, (a .1 .0 .bytes, tt)) x (s .0, (s .1 .0 .bytes, tt))) r
+dock-decrypt-is-decrypt κs a r s p = (_, refl, p)
+
 -- ---- the modes
 
-mode-keeps : (o : Operation) (key iv inp out : List ℕ) {r : ℕ} → r ≡ modeNumber (modeAnswer o key iv inp out) → (r ≡ 0 → ⊥) → afterMode o key iv inp out ≡ out
+-- key, IV, input and output as they are lent
+abbrev pub Slices : Type 0
+Slices = RefT (List ℕ) × (RefT (List ℕ) × (RefT (List ℕ) × (RefT (List ℕ) × Unit {0})))
+
+abbrev pub AsApply : Operation → Lfts 4 → Slices → ℕ → Slices → Type 0
+AsApply o κs a r s = AsBelow modeNumber (λ x. apply.Post κs (o, a) x (o, s)) r
+
+applied : (o : Operation) (κs : Lfts 4) (a : Slices) (r : ℕ) (s : Slices) → r ≡ modeNumber (modeAnswer o (now (a .0)) (now (a .1 .0)) (now (a .1 .1 .0)) (now (a .1 .1 .1 .0)))
+    → now (s .1 .1 .1 .0) ≡ afterMode o (now (a .0)) (now (a .1 .0)) (now (a .1 .1 .0)) (now (a .1 .1 .1 .0)) → AsApply o κs a r s
 unfolding afterMode
-mode-keeps o key iv inp out e h = kept (modeAnswer o key iv inp out) o key iv inp out (λ z. h (e ∙ z))
+applied o κs a r s e w = (_, (refl, w), e)
+
+apply-keeps : (o : Operation) (κs : Lfts 4) (a : Slices) (r : ℕ) (s : Slices) → AsApply o κs a r s → (r ≡ 0 → ⊥) → now (s .1 .1 .1 .0) ≡ now (a .1 .1 .1 .0)
+apply-keeps o κs a r s b h = refused-below b (λ x q. apply-refused-keeps κs (o, a) x (o, s) q) h
 
 pub dock-ecb-encrypt-asks-nothing : (κs : _) (a : _) → dock-ecb-encrypt.Asked κs a
 dock-ecb-encrypt-asks-nothing κs a = tt
@@ -92,8 +147,11 @@ pub dock-ecb-encrypt-determined : (κs : _) (a : _) (r r′ : _) (s s′ : _) �
     → (r ≡ r′) × (now (s .1 .1 .1 .0) ≡ now (s′ .1 .1 .1 .0))
 dock-ecb-encrypt-determined κs a r r′ s s′ p q = (p .0 ∙ sym (q .0), p .1 ∙ sym (q .1))
 
+pub dock-ecb-encrypt-is-apply : (κs : _) (a : _) (r : _) (s : _) → dock-ecb-encrypt.Post κs a r s → AsApply EcbEncrypt κs a r s
+dock-ecb-encrypt-is-apply κs a r s p = applied EcbEncrypt κs a r s (p .0) (p .1)
+
 pub dock-ecb-encrypt-refused-keeps : (κs : _) (a : _) (r : _) (s : _) → dock-ecb-encrypt.Post κs a r s → (r ≡ 0 → ⊥) → now (s .1 .1 .1 .0) ≡ now (a .1 .1 .1 .0)
-dock-ecb-encrypt-refused-keeps κs a r s p h = p .1 ∙ mode-keeps EcbEncrypt (now (a .0)) (now (a .1 .0)) (now (a .1 .1 .0)) (now (a .1 .1 .1 .0)) (p .0) h
+dock-ecb-encrypt-refused-keeps κs a r s p h = apply-keeps EcbEncrypt κs a r s (dock-ecb-encrypt-is-apply κs a r s p) h
 
 pub dock-ecb-decrypt-asks-nothing : (κs : _) (a : _) → dock-ecb-decrypt.Asked κs a
 dock-ecb-decrypt-asks-nothing κs a = tt
@@ -102,8 +160,11 @@ pub dock-ecb-decrypt-determined : (κs : _) (a : _) (r r′ : _) (s s′ : _) �
     → (r ≡ r′) × (now (s .1 .1 .1 .0) ≡ now (s′ .1 .1 .1 .0))
 dock-ecb-decrypt-determined κs a r r′ s s′ p q = (p .0 ∙ sym (q .0), p .1 ∙ sym (q .1))
 
+pub dock-ecb-decrypt-is-apply : (κs : _) (a : _) (r : _) (s : _) → dock-ecb-decrypt.Post κs a r s → AsApply EcbDecrypt κs a r s
+dock-ecb-decrypt-is-apply κs a r s p = applied EcbDecrypt κs a r s (p .0) (p .1)
+
 pub dock-ecb-decrypt-refused-keeps : (κs : _) (a : _) (r : _) (s : _) → dock-ecb-decrypt.Post κs a r s → (r ≡ 0 → ⊥) → now (s .1 .1 .1 .0) ≡ now (a .1 .1 .1 .0)
-dock-ecb-decrypt-refused-keeps κs a r s p h = p .1 ∙ mode-keeps EcbDecrypt (now (a .0)) (now (a .1 .0)) (now (a .1 .1 .0)) (now (a .1 .1 .1 .0)) (p .0) h
+dock-ecb-decrypt-refused-keeps κs a r s p h = apply-keeps EcbDecrypt κs a r s (dock-ecb-decrypt-is-apply κs a r s p) h
 
 pub dock-cbc-encrypt-asks-nothing : (κs : _) (a : _) → dock-cbc-encrypt.Asked κs a
 dock-cbc-encrypt-asks-nothing κs a = tt
@@ -112,8 +173,11 @@ pub dock-cbc-encrypt-determined : (κs : _) (a : _) (r r′ : _) (s s′ : _) �
     → (r ≡ r′) × (now (s .1 .1 .1 .0) ≡ now (s′ .1 .1 .1 .0))
 dock-cbc-encrypt-determined κs a r r′ s s′ p q = (p .0 ∙ sym (q .0), p .1 ∙ sym (q .1))
 
+pub dock-cbc-encrypt-is-apply : (κs : _) (a : _) (r : _) (s : _) → dock-cbc-encrypt.Post κs a r s → AsApply CbcEncrypt κs a r s
+dock-cbc-encrypt-is-apply κs a r s p = applied CbcEncrypt κs a r s (p .0) (p .1)
+
 pub dock-cbc-encrypt-refused-keeps : (κs : _) (a : _) (r : _) (s : _) → dock-cbc-encrypt.Post κs a r s → (r ≡ 0 → ⊥) → now (s .1 .1 .1 .0) ≡ now (a .1 .1 .1 .0)
-dock-cbc-encrypt-refused-keeps κs a r s p h = p .1 ∙ mode-keeps CbcEncrypt (now (a .0)) (now (a .1 .0)) (now (a .1 .1 .0)) (now (a .1 .1 .1 .0)) (p .0) h
+dock-cbc-encrypt-refused-keeps κs a r s p h = apply-keeps CbcEncrypt κs a r s (dock-cbc-encrypt-is-apply κs a r s p) h
 
 pub dock-cbc-decrypt-asks-nothing : (κs : _) (a : _) → dock-cbc-decrypt.Asked κs a
 dock-cbc-decrypt-asks-nothing κs a = tt
@@ -122,8 +186,11 @@ pub dock-cbc-decrypt-determined : (κs : _) (a : _) (r r′ : _) (s s′ : _) �
     → (r ≡ r′) × (now (s .1 .1 .1 .0) ≡ now (s′ .1 .1 .1 .0))
 dock-cbc-decrypt-determined κs a r r′ s s′ p q = (p .0 ∙ sym (q .0), p .1 ∙ sym (q .1))
 
+pub dock-cbc-decrypt-is-apply : (κs : _) (a : _) (r : _) (s : _) → dock-cbc-decrypt.Post κs a r s → AsApply CbcDecrypt κs a r s
+dock-cbc-decrypt-is-apply κs a r s p = applied CbcDecrypt κs a r s (p .0) (p .1)
+
 pub dock-cbc-decrypt-refused-keeps : (κs : _) (a : _) (r : _) (s : _) → dock-cbc-decrypt.Post κs a r s → (r ≡ 0 → ⊥) → now (s .1 .1 .1 .0) ≡ now (a .1 .1 .1 .0)
-dock-cbc-decrypt-refused-keeps κs a r s p h = p .1 ∙ mode-keeps CbcDecrypt (now (a .0)) (now (a .1 .0)) (now (a .1 .1 .0)) (now (a .1 .1 .1 .0)) (p .0) h
+dock-cbc-decrypt-refused-keeps κs a r s p h = apply-keeps CbcDecrypt κs a r s (dock-cbc-decrypt-is-apply κs a r s p) h
 
 pub dock-cfb-encrypt-asks-nothing : (κs : _) (a : _) → dock-cfb-encrypt.Asked κs a
 dock-cfb-encrypt-asks-nothing κs a = tt
@@ -132,8 +199,11 @@ pub dock-cfb-encrypt-determined : (κs : _) (a : _) (r r′ : _) (s s′ : _) �
     → (r ≡ r′) × (now (s .1 .1 .1 .0) ≡ now (s′ .1 .1 .1 .0))
 dock-cfb-encrypt-determined κs a r r′ s s′ p q = (p .0 ∙ sym (q .0), p .1 ∙ sym (q .1))
 
+pub dock-cfb-encrypt-is-apply : (κs : _) (a : _) (r : _) (s : _) → dock-cfb-encrypt.Post κs a r s → AsApply CfbEncrypt κs a r s
+dock-cfb-encrypt-is-apply κs a r s p = applied CfbEncrypt κs a r s (p .0) (p .1)
+
 pub dock-cfb-encrypt-refused-keeps : (κs : _) (a : _) (r : _) (s : _) → dock-cfb-encrypt.Post κs a r s → (r ≡ 0 → ⊥) → now (s .1 .1 .1 .0) ≡ now (a .1 .1 .1 .0)
-dock-cfb-encrypt-refused-keeps κs a r s p h = p .1 ∙ mode-keeps CfbEncrypt (now (a .0)) (now (a .1 .0)) (now (a .1 .1 .0)) (now (a .1 .1 .1 .0)) (p .0) h
+dock-cfb-encrypt-refused-keeps κs a r s p h = apply-keeps CfbEncrypt κs a r s (dock-cfb-encrypt-is-apply κs a r s p) h
 
 pub dock-cfb-decrypt-asks-nothing : (κs : _) (a : _) → dock-cfb-decrypt.Asked κs a
 dock-cfb-decrypt-asks-nothing κs a = tt
@@ -142,8 +212,11 @@ pub dock-cfb-decrypt-determined : (κs : _) (a : _) (r r′ : _) (s s′ : _) �
     → (r ≡ r′) × (now (s .1 .1 .1 .0) ≡ now (s′ .1 .1 .1 .0))
 dock-cfb-decrypt-determined κs a r r′ s s′ p q = (p .0 ∙ sym (q .0), p .1 ∙ sym (q .1))
 
+pub dock-cfb-decrypt-is-apply : (κs : _) (a : _) (r : _) (s : _) → dock-cfb-decrypt.Post κs a r s → AsApply CfbDecrypt κs a r s
+dock-cfb-decrypt-is-apply κs a r s p = applied CfbDecrypt κs a r s (p .0) (p .1)
+
 pub dock-cfb-decrypt-refused-keeps : (κs : _) (a : _) (r : _) (s : _) → dock-cfb-decrypt.Post κs a r s → (r ≡ 0 → ⊥) → now (s .1 .1 .1 .0) ≡ now (a .1 .1 .1 .0)
-dock-cfb-decrypt-refused-keeps κs a r s p h = p .1 ∙ mode-keeps CfbDecrypt (now (a .0)) (now (a .1 .0)) (now (a .1 .1 .0)) (now (a .1 .1 .1 .0)) (p .0) h
+dock-cfb-decrypt-refused-keeps κs a r s p h = apply-keeps CfbDecrypt κs a r s (dock-cfb-decrypt-is-apply κs a r s p) h
 
 pub dock-ofb-encrypt-asks-nothing : (κs : _) (a : _) → dock-ofb-encrypt.Asked κs a
 dock-ofb-encrypt-asks-nothing κs a = tt
@@ -152,8 +225,11 @@ pub dock-ofb-encrypt-determined : (κs : _) (a : _) (r r′ : _) (s s′ : _) �
     → (r ≡ r′) × (now (s .1 .1 .1 .0) ≡ now (s′ .1 .1 .1 .0))
 dock-ofb-encrypt-determined κs a r r′ s s′ p q = (p .0 ∙ sym (q .0), p .1 ∙ sym (q .1))
 
+pub dock-ofb-encrypt-is-apply : (κs : _) (a : _) (r : _) (s : _) → dock-ofb-encrypt.Post κs a r s → AsApply OfbEncrypt κs a r s
+dock-ofb-encrypt-is-apply κs a r s p = applied OfbEncrypt κs a r s (p .0) (p .1)
+
 pub dock-ofb-encrypt-refused-keeps : (κs : _) (a : _) (r : _) (s : _) → dock-ofb-encrypt.Post κs a r s → (r ≡ 0 → ⊥) → now (s .1 .1 .1 .0) ≡ now (a .1 .1 .1 .0)
-dock-ofb-encrypt-refused-keeps κs a r s p h = p .1 ∙ mode-keeps OfbEncrypt (now (a .0)) (now (a .1 .0)) (now (a .1 .1 .0)) (now (a .1 .1 .1 .0)) (p .0) h
+dock-ofb-encrypt-refused-keeps κs a r s p h = apply-keeps OfbEncrypt κs a r s (dock-ofb-encrypt-is-apply κs a r s p) h
 
 pub dock-ofb-decrypt-asks-nothing : (κs : _) (a : _) → dock-ofb-decrypt.Asked κs a
 dock-ofb-decrypt-asks-nothing κs a = tt
@@ -162,8 +238,11 @@ pub dock-ofb-decrypt-determined : (κs : _) (a : _) (r r′ : _) (s s′ : _) �
     → (r ≡ r′) × (now (s .1 .1 .1 .0) ≡ now (s′ .1 .1 .1 .0))
 dock-ofb-decrypt-determined κs a r r′ s s′ p q = (p .0 ∙ sym (q .0), p .1 ∙ sym (q .1))
 
+pub dock-ofb-decrypt-is-apply : (κs : _) (a : _) (r : _) (s : _) → dock-ofb-decrypt.Post κs a r s → AsApply OfbDecrypt κs a r s
+dock-ofb-decrypt-is-apply κs a r s p = applied OfbDecrypt κs a r s (p .0) (p .1)
+
 pub dock-ofb-decrypt-refused-keeps : (κs : _) (a : _) (r : _) (s : _) → dock-ofb-decrypt.Post κs a r s → (r ≡ 0 → ⊥) → now (s .1 .1 .1 .0) ≡ now (a .1 .1 .1 .0)
-dock-ofb-decrypt-refused-keeps κs a r s p h = p .1 ∙ mode-keeps OfbDecrypt (now (a .0)) (now (a .1 .0)) (now (a .1 .1 .0)) (now (a .1 .1 .1 .0)) (p .0) h
+dock-ofb-decrypt-refused-keeps κs a r s p h = apply-keeps OfbDecrypt κs a r s (dock-ofb-decrypt-is-apply κs a r s p) h
 
 -- ---- the check
 
@@ -173,11 +252,17 @@ dock-check-asks-nothing κs a = tt
 pub dock-check-determined : (κs : _) (a : _) (r r′ : _) (s s′ : _) → dock-check.Post κs a r s → dock-check.Post κs a r′ s′ → r ≡ r′
 dock-check-determined κs a r r′ s s′ p q = p ∙ sym q
 
+pub dock-check-is-check : (κs : _) (a : _) (r : _) (s : _) → dock-check.Post κs a r s → AsBelow checkAnswer (λ x. check.Post κs a x s) r
+dock-check-is-check κs a r s p = (_, refl, p)
+
 pub dock-check-start-asks-nothing : (κs : _) (a : _) → dock-check-start.Asked κs a
 dock-check-start-asks-nothing κs a = tt
 
 pub dock-check-start-determined : (κs : _) (a : _) (r r′ : _) (s s′ : _) → dock-check-start.Post κs a r s → dock-check-start.Post κs a r′ s′ → r ≡ r′
 dock-check-start-determined κs a r r′ s s′ p q = p ∙ sym q
+
+pub dock-check-start-is-start : (κs : _) (a : _) (r : _) (s : _) → dock-check-start.Post κs a r s → AsBelow startAnswer (λ x. start.Post κs a x s) r
+dock-check-start-is-start κs a r s p = (_, refl, p)
 
 -- exception: dock::dock_check_feed: it is lent the record by `&mut`, for which no `Reads` is made; the same is said over the clauses of its contract
 module _ {M : Type 1} (𝓤 : URA M) (H : Heap 𝓤) (A : Atoms 𝓤) (mem : Memory → SProp 𝓤) (run : Routine → Fun 𝓤) (κs : _) (a : _) where
@@ -189,11 +274,18 @@ module _ {M : Type 1} (𝓤 : URA M) (H : Heap 𝓤) (A : Atoms 𝓤) (mem : Mem
       → ent 𝓤 P (fact 𝓤 (now (s .0) ≡ now (s′ .0)))
   dock-check-feed-determined r r′ s s′ P p q = fact-use 𝓤 _ p (λ e. fact-use 𝓤 _ q (λ f. factI 𝓤 _ P (e ∙ sym f)))
 
+  pub dock-check-feed-is-fed-with : (r : _) (s : _) (P : SProp 𝓤) → ent 𝓤 P (dock-check-feed.clauses 𝓤 H A mem run κs a .ensures tt r s)
+      → ent 𝓤 P (fact 𝓤 (fed-with.Post (κs .1) (now (a .0), a .1) (now (s .0)) (now (s .0), s .1)))
+  dock-check-feed-is-fed-with r s P p = p
+
 pub dock-check-close-asks-nothing : (κs : _) (a : _) → dock-check-close.Asked κs a
 dock-check-close-asks-nothing κs a = tt
 
 pub dock-check-close-determined : (κs : _) (a : _) (r r′ : _) (s s′ : _) → dock-check-close.Post κs a r s → dock-check-close.Post κs a r′ s′ → r ≡ r′
 dock-check-close-determined κs a r r′ s s′ p q = p ∙ sym q
+
+pub dock-check-close-is-close : (κs : _) (a : _) (r : _) (s : _) → dock-check-close.Post κs a r s → AsBelow closeAnswer (λ x. close.Post κs a x s) r
+dock-check-close-is-close κs a r s p = (_, refl, p)
 
 -- ---- images
 
@@ -204,9 +296,11 @@ pub dock-write-determined : (κs : _) (a : _) (r r′ : _) (s s′ : _) → dock
     → (r ≡ r′) × (now (s .1 .1 .1 .1 .1 .1 .0) ≡ now (s′ .1 .1 .1 .1 .1 .1 .0))
 dock-write-determined κs a r r′ s s′ p q = (p .0 ∙ sym (q .0), p .1 ∙ sym (q .1))
 
+pub dock-write-is-write : (κs : _) (a : _) (r : _) (s : _) → dock-write.Post κs a r s → AsBelow writeNumber (λ x. write.Post κs a x s) r
+dock-write-is-write κs a r s p = (_, (refl, p .1), p .0)
+
 pub dock-write-refused-keeps : (κs : _) (a : _) (r : _) (s : _) → dock-write.Post κs a r s → (r ≡ 0 → ⊥) → now (s .1 .1 .1 .1 .1 .1 .0) ≡ now (a .1 .1 .1 .1 .1 .1 .0)
-dock-write-refused-keeps κs a r s p h =
-    p .1 ∙ write-refusal-keeps (now (a .0)) (now (a .1 .0)) (a .1 .1 .0) (a .1 .1 .1 .0) (a .1 .1 .1 .1 .0) (now (a .1 .1 .1 .1 .1 .0)) (now (a .1 .1 .1 .1 .1 .1 .0)) (λ z. h (p .0 ∙ z))
+dock-write-refused-keeps κs a r s p h = refused-below (dock-write-is-write κs a r s p) (λ x b. write-refused-keeps κs a x s b) h
 
 pub dock-read-start-asks-nothing : (κs : _) (a : _) → dock-read-start.Asked κs a
 dock-read-start-asks-nothing κs a = tt
@@ -214,12 +308,21 @@ dock-read-start-asks-nothing κs a = tt
 pub dock-read-start-determined : (κs : _) (a : _) (r r′ : _) (s s′ : _) → dock-read-start.Post κs a r s → dock-read-start.Post κs a r′ s′ → r ≡ r′
 dock-read-start-determined κs a r r′ s s′ p q = p ∙ sym q
 
+pub dock-read-start-is-read-start : (κs : _) (a : _) (r : _) (s : _) → dock-read-start.Post κs a r s → AsBelow readStartAnswer (λ x. read-start.Post κs a x s) r
+dock-read-start-is-read-start κs a r s p = (_, refl, p)
+
 pub dock-read-turn-asks-nothing : (κs : _) (a : _) → dock-read-turn.Asked κs a
 dock-read-turn-asks-nothing κs a = tt
 
 pub dock-read-turn-determined : (κs : _) (a : _) (r r′ : _) (s s′ : _) → dock-read-turn.Post κs a r s → dock-read-turn.Post κs a r′ s′
     → (r ≡ r′) × (now (s .1 .1 .1 .0) ≡ now (s′ .1 .1 .1 .0))
 dock-read-turn-determined κs a r r′ s s′ p q = (p .0 ∙ sym (q .0), p .1 ∙ sym (q .1))
+
+pub dock-read-turn-is-read-turn : (κs : _) (a : _) (r : _) (s : _) → dock-read-turn.Post κs a r s
+    → AsBelow turnAnswer (λ x. read-turn.Post κs (readerOf (a .0), a .1) x (readerOf (s .0), s .1)) r
+dock-read-turn-is-read-turn κs a r s p =
+    let t = turnOf (readerOf (a .0)) (now (a .1 .0)) (a .1 .1 .0) (now (a .1 .1 .1 .0)) in
+    (t .0, ap (λ (o : List ℕ). (t .0, o)) (p .1), p .0)
 
 -- only a turn that is refused as a whole has a number
 whole : (x : Stop) → (toldOf x .number ≡ 0 → ⊥) → Whole x
@@ -249,6 +352,10 @@ dock-read-complete-asks-nothing κs a = tt
 
 pub dock-read-complete-determined : (κs : _) (a : _) (r r′ : _) (s s′ : _) → dock-read-complete.Post κs a r s → dock-read-complete.Post κs a r′ s′ → r ≡ r′
 dock-read-complete-determined κs a r r′ s s′ p q = p ∙ sym q
+
+pub dock-read-complete-is-read-complete : (κs : _) (a : _) (r : _) (s : _) → dock-read-complete.Post κs a r s
+    → AsBelow completionNumber (λ x. read-complete.Post κs (readerOf (a .0), tt) x (readerOf (s .0), tt)) r
+dock-read-complete-is-read-complete κs a r s p = (_, refl, p)
 
 -- ---- a reader's state, to C and back
 
@@ -296,9 +403,11 @@ pub dock-wrap-determined : (κs : _) (a : _) (r r′ : _) (s s′ : _) → dock-
     → (r ≡ r′) × (now (s .1 .1 .0) ≡ now (s′ .1 .1 .0))
 dock-wrap-determined κs a r r′ s s′ p q = (p .0 ∙ sym (q .0), p .1 ∙ sym (q .1))
 
+pub dock-wrap-is-wrap : (κs : _) (a : _) (r : _) (s : _) → dock-wrap.Post κs a r s → AsBelow wrapNumber (λ x. wrap.Post κs a x s) r
+dock-wrap-is-wrap κs a r s p = (_, (refl, p .1), p .0)
+
 pub dock-wrap-refused-keeps : (κs : _) (a : _) (r : _) (s : _) → dock-wrap.Post κs a r s → (r ≡ 0 → ⊥) → now (s .1 .1 .0) ≡ now (a .1 .1 .0)
-dock-wrap-refused-keeps κs a r s p h =
-    p .1 ∙ wrap-keeps (wrapAnswer (now (a .0)) (now (a .1 .0)) (now (a .1 .1 .0))) (now (a .0)) (now (a .1 .0)) (now (a .1 .1 .0)) (λ z. h (p .0 ∙ z))
+dock-wrap-refused-keeps κs a r s p h = refused-below (dock-wrap-is-wrap κs a r s p) (λ x b. wrap-refused-keeps κs a x s b) h
 
 pub dock-unwrap-asks-nothing : (κs : _) (a : _) → dock-unwrap.Asked κs a
 dock-unwrap-asks-nothing κs a = tt
@@ -307,6 +416,8 @@ pub dock-unwrap-determined : (κs : _) (a : _) (r r′ : _) (s s′ : _) → doc
     → (r ≡ r′) × (now (s .1 .1 .0) ≡ now (s′ .1 .1 .0))
 dock-unwrap-determined κs a r r′ s s′ p q = (p .0 ∙ sym (q .0), p .1 ∙ sym (q .1))
 
+pub dock-unwrap-is-unwrap : (κs : _) (a : _) (r : _) (s : _) → dock-unwrap.Post κs a r s → AsBelow wrapNumber (λ x. unwrap.Post κs a x s) r
+dock-unwrap-is-unwrap κs a r s p = (_, (refl, p .1), p .0)
+
 pub dock-unwrap-refused-keeps : (κs : _) (a : _) (r : _) (s : _) → dock-unwrap.Post κs a r s → (r ≡ 0 → ⊥) → now (s .1 .1 .0) ≡ now (a .1 .1 .0)
-dock-unwrap-refused-keeps κs a r s p h =
-    p .1 ∙ unwrap-keeps (unwrapAnswer (now (a .0)) (now (a .1 .0)) (now (a .1 .1 .0))) (now (a .0)) (now (a .1 .0)) (now (a .1 .1 .0)) (λ z. h (p .0 ∙ z))
+dock-unwrap-refused-keeps κs a r s p h = refused-below (dock-unwrap-is-unwrap κs a r s p) (λ x b. unwrap-refused-keeps κs a x s b) h
