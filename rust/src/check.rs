@@ -2,7 +2,7 @@
 
 use crate::refusal::Refusal;
 use crate::sys;
-use std::fmt;
+use core::fmt;
 
 /// The check of a message of any length, under a key of 16, 24 or 32 bytes. Refused by 1.
 pub fn check(key: &[u8], message: &[u8]) -> Result<[u8; 16], Refusal> {

@@ -2,7 +2,7 @@
 
 use crate::refusal::Refusal;
 use crate::sys;
-use std::fmt;
+use core::fmt;
 
 /// The product of two bytes in the field of FIPS 197.
 pub fn product(a: u8, b: u8) -> u8 {

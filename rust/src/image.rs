@@ -2,7 +2,7 @@
 
 use crate::refusal::Refusal;
 use crate::sys;
-use std::fmt;
+use core::fmt;
 
 /// Seals a payload as block `number`, from 0, of `count` of a release, into the first 512 bytes of the output.
 ///

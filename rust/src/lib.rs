@@ -17,11 +17,12 @@
 //! # Ok::<(), dock::Refusal>(())
 //! ```
 //!
-//! The archive is for x86-64 Linux: `rt staticlib dock` writes it to target/staticlib, where the build script looks for it, or in the
-//! folder that DOCK_LIBS names.
+//! The package needs `core` alone. The archive that it links is for x86-64 Linux: `rt staticlib dock` writes it to target/staticlib,
+//! where the build script looks for it, or in the folder that DOCK_LIBS names.
 //!
 //! [`Schedule`], [`Check`] and [`Reader`] hold expanded keys, and calls leave copies of these on the stack: nothing here overwrites
 //! them. Nothing is promised of how long a call takes.
+#![no_std]
 #![deny(missing_docs, unsafe_op_in_unsafe_fn)]
 
 mod check;

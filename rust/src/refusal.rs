@@ -1,7 +1,6 @@
 //! The numbered refusals.
 
-use std::error::Error;
-use std::fmt;
+use core::fmt;
 
 /// Why a call was not carried out.
 #[derive(Clone, Copy, PartialEq, Eq, Hash, Debug)]
@@ -116,5 +115,3 @@ impl fmt::Display for Refusal {
         write!(f, "refusal {}: {words}", self.number())
     }
 }
-
-impl Error for Refusal {}
