@@ -4,7 +4,6 @@ use crate::args;
 use crate::print;
 use args::Args;
 use cipher::Ciphered;
-use schedule::KeyAnswer;
 use schedule::KeySchedule;
 
 pub enum BasicCall {
@@ -23,13 +22,6 @@ pub fn answer(call: BasicCall, ins: &[u8], a: Args, text: &mut [u8], at: usize) 
     }
 }
 
-pub fn key_number(k: KeyAnswer) -> u64 {
-    match k {
-        KeyAnswer::Taken => 0,
-        KeyAnswer::KeyLength => 1,
-    }
-}
-
 fn product(ins: &[u8], a: Args, text: &mut [u8], at: usize) -> usize {
     let p = [field::product(args::byte(ins, a, 1), args::byte(ins, a, 2))];
     print::number_bytes(0, &p, text, at)
@@ -40,7 +32,7 @@ fn expand(ins: &[u8], a: Args, text: &mut [u8], at: usize) -> usize {
     let answer = e.answer;
     let schedule = e.schedule;
     let words = schedule.words;
-    print::number_words(key_number(answer), words, text, at)
+    print::number_words(answer.number() as u64, words, text, at)
 }
 
 fn encrypt(ins: &[u8], a: Args) -> Ciphered {
@@ -54,5 +46,5 @@ fn decrypt(ins: &[u8], a: Args) -> Ciphered {
 fn ciphered(c: Ciphered, text: &mut [u8], at: usize) -> usize {
     let answer = c.answer;
     let block = c.block;
-    print::number_bytes(key_number(answer), &block, text, at)
+    print::number_bytes(answer.number() as u64, &block, text, at)
 }

@@ -1,6 +1,5 @@
 // The lines of the check: `check KEY MESSAGE`, `check-start KEY`, `check-feed PART` and `check-close`.
 use crate::args;
-use crate::basic::key_number;
 use crate::held::Held;
 use crate::print;
 use args::Args;
@@ -32,7 +31,7 @@ fn whole(ins: &[u8], a: Args, text: &mut [u8], at: usize) -> usize {
     let c = cmac::check(args::bytes(ins, a, 1), args::bytes(ins, a, 2));
     let answer = c.answer;
     let mac = c.check;
-    print::number_bytes(key_number(answer), &mac, text, at)
+    print::number_bytes(answer.number() as u64, &mac, text, at)
 }
 
 fn start(held: Held, ins: &[u8], a: Args, text: &mut [u8], at: usize) -> Held {
@@ -40,7 +39,7 @@ fn start(held: Held, ins: &[u8], a: Args, text: &mut [u8], at: usize) -> Held {
     let answer = s.answer;
     let record = s.record;
     held.with_record(record)
-        .at(print::number(key_number(answer), text, at))
+        .at(print::number(answer.number() as u64, text, at))
 }
 
 fn feed(held: Held, ins: &[u8], a: Args, text: &mut [u8], at: usize) -> Held {

@@ -1,14 +1,11 @@
 // The lines of images: `write EKEY CKEY NUMBER COUNT RELEASE PAYLOAD OUT`, `read-start EKEY CKEY`,
 // `read-turn ASKED BLOCKS OUT` and `read-complete`.
 use crate::args;
-use crate::basic::key_number;
 use crate::held::Held;
 use crate::print;
 use crate::stopped;
 use args::Args;
-use image::Completion;
 use image::Turn;
-use image::WriteAnswer;
 
 pub enum ImageCall {
     Write,
@@ -45,18 +42,7 @@ fn write(ins: &[u8], a: Args, outs: &mut [u8], text: &mut [u8], at: usize) -> us
         args::bytes(ins, a, 6),
         &mut outs[..n],
     );
-    print::number_bytes(write_number(r), lines::part(outs, 0, n), text, at)
-}
-
-fn write_number(r: WriteAnswer) -> u64 {
-    match r {
-        WriteAnswer::Written => 0,
-        WriteAnswer::WriteKey => 1,
-        WriteAnswer::WriteRoom => 4,
-        WriteAnswer::WriteCount => 7,
-        WriteAnswer::WriteNumber => 8,
-        WriteAnswer::WriteLength => 12,
-    }
+    print::number_bytes(r.number() as u64, lines::part(outs, 0, n), text, at)
 }
 
 fn start(held: Held, ins: &[u8], a: Args, text: &mut [u8], at: usize) -> Held {
@@ -64,7 +50,7 @@ fn start(held: Held, ins: &[u8], a: Args, text: &mut [u8], at: usize) -> Held {
     let answer = s.answer;
     let reader = s.reader;
     held.with_reader(reader)
-        .at(print::number(key_number(answer), text, at))
+        .at(print::number(answer.number() as u64, text, at))
 }
 
 fn turn(held: Held, ins: &[u8], a: Args, outs: &mut [u8], text: &mut [u8], at: usize) -> Held {
@@ -84,12 +70,5 @@ fn after_turn(held: Held, t: Turn, out: &[u8], text: &mut [u8], at: usize) -> He
 fn complete(held: Held, text: &mut [u8], at: usize) -> usize {
     let reader = held.reader;
     let c = image::read_complete(reader);
-    print::number(completion_number(c), text, at)
-}
-
-fn completion_number(c: Completion) -> u64 {
-    match c {
-        Completion::Complete => 0,
-        Completion::NotComplete => 17,
-    }
+    print::number(c.number() as u64, text, at)
 }

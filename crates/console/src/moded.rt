@@ -2,7 +2,6 @@
 use crate::args;
 use crate::print;
 use args::Args;
-use modes::ModeAnswer;
 use sp800_38a::Operation;
 
 pub fn answer(
@@ -21,15 +20,5 @@ pub fn answer(
         args::bytes(ins, a, 3),
         &mut outs[..n],
     );
-    print::number_bytes(mode_number(r), lines::part(outs, 0, n), text, at)
-}
-
-fn mode_number(r: ModeAnswer) -> u64 {
-    match r {
-        ModeAnswer::Done => 0,
-        ModeAnswer::BadKey => 1,
-        ModeAnswer::BadIv => 2,
-        ModeAnswer::NotPieces => 3,
-        ModeAnswer::OutputShort => 4,
-    }
+    print::number_bytes(r.number() as u64, lines::part(outs, 0, n), text, at)
 }

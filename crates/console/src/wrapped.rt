@@ -2,7 +2,6 @@
 use crate::args;
 use crate::print;
 use args::Args;
-use wrap::WrapAnswer;
 
 pub enum WrapCall {
     Wrap,
@@ -30,7 +29,7 @@ fn wrapped(ins: &[u8], a: Args, outs: &mut [u8], text: &mut [u8], at: usize) -> 
         args::bytes(ins, a, 2),
         &mut outs[..n],
     );
-    print::number_bytes(wrap_number(r), lines::part(outs, 0, n), text, at)
+    print::number_bytes(r.number() as u64, lines::part(outs, 0, n), text, at)
 }
 
 fn unwrapped(ins: &[u8], a: Args, outs: &mut [u8], text: &mut [u8], at: usize) -> usize {
@@ -40,15 +39,5 @@ fn unwrapped(ins: &[u8], a: Args, outs: &mut [u8], text: &mut [u8], at: usize) -
         args::bytes(ins, a, 2),
         &mut outs[..n],
     );
-    print::number_bytes(wrap_number(r), lines::part(outs, 0, n), text, at)
-}
-
-fn wrap_number(r: WrapAnswer) -> u64 {
-    match r {
-        WrapAnswer::WrapDone => 0,
-        WrapAnswer::WrapKey => 1,
-        WrapAnswer::WrapRoom => 4,
-        WrapAnswer::WrapSize => 18,
-        WrapAnswer::WrongInitial => 19,
-    }
+    print::number_bytes(r.number() as u64, lines::part(outs, 0, n), text, at)
 }

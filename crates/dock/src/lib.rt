@@ -3,12 +3,7 @@
 mod numbers;
 mod states;
 
-use crate::numbers::completion_number;
 use crate::numbers::how_stopped;
-use crate::numbers::key_number;
-use crate::numbers::mode_number;
-use crate::numbers::wrap_number;
-use crate::numbers::write_number;
 use crate::states::reader_of;
 use crate::states::state_of;
 use cipher::Ciphered;
@@ -109,7 +104,7 @@ pub extern "C" fn dock_schedule(key: &[u8]) -> ScheduleAnswer
     let schedule = made.schedule;
     let words = schedule.words;
     ScheduleAnswer {
-        number: key_number(answer),
+        number: answer.number(),
         words,
         rounds: schedule.rounds,
     }
@@ -204,7 +199,7 @@ pub extern "C" fn dock_check(key: &[u8], message: &[u8]) -> CheckAnswer
     let answer = c.answer;
     let check = c.check;
     CheckAnswer {
-        number: key_number(answer),
+        number: answer.number(),
         check,
     }
 }
@@ -217,7 +212,7 @@ pub extern "C" fn dock_check_start(key: &[u8]) -> StartAnswer
     let answer = s.answer;
     let record = s.record;
     StartAnswer {
-        number: key_number(answer),
+        number: answer.number(),
         record,
     }
 }
@@ -252,7 +247,7 @@ pub extern "C" fn dock_write(
     ensures written { λ _. ⌜ now (output .exit) ≡ image.writeOutput (image.writeAnswer (now (ekey .entry)) (now (ckey .entry)) number count (now (payload .entry)) (now (output .entry))) (now (ekey .entry)) (now (ckey .entry)) number count release (now (payload .entry)) (now (output .entry)) ⌝ }
 {
     let answer = image::write(ekey, ckey, number, count, release, payload, output);
-    write_number(answer)
+    answer.number()
 }
 
 #[no_mangle]
@@ -263,7 +258,7 @@ pub extern "C" fn dock_read_start(ekey: &[u8], ckey: &[u8]) -> ReadStartAnswer
     let answer = s.answer;
     let reader = s.reader;
     ReadStartAnswer {
-        number: key_number(answer),
+        number: answer.number(),
         reader: state_of(reader),
     }
 }
@@ -287,7 +282,7 @@ pub extern "C" fn dock_read_complete(reader: ReaderState) -> u32
     ensures { λ r. ⌜ r ≡ image.completionNumber (image.completionOf (readerOf reader)) ⌝ }
 {
     let answer = image::read_complete(reader_of(reader));
-    completion_number(answer)
+    answer.number()
 }
 
 #[no_mangle]
@@ -296,7 +291,7 @@ pub extern "C" fn dock_wrap(key: &[u8], data: &[u8], output: &mut [u8]) -> u32
     ensures written { λ _. ⌜ now (output .exit) ≡ wrapOutput (wrapAnswer (now (key .entry)) (now («data» .entry)) (now (output .entry))) (now (key .entry)) (now («data» .entry)) (now (output .entry)) ⌝ }
 {
     let answer = wrap::wrap(key, data, output);
-    wrap_number(answer)
+    answer.number()
 }
 
 #[no_mangle]
@@ -305,7 +300,7 @@ pub extern "C" fn dock_unwrap(key: &[u8], data: &[u8], output: &mut [u8]) -> u32
     ensures written { λ _. ⌜ now (output .exit) ≡ unwrapOutput (unwrapAnswer (now (key .entry)) (now («data» .entry)) (now (output .entry))) (now (key .entry)) (now («data» .entry)) (now (output .entry)) ⌝ }
 {
     let answer = wrap::unwrap(key, data, output);
-    wrap_number(answer)
+    answer.number()
 }
 
 fn block_answer(c: Ciphered) -> BlockAnswer
@@ -314,7 +309,7 @@ fn block_answer(c: Ciphered) -> BlockAnswer
     let answer = c.answer;
     let block = c.block;
     BlockAnswer {
-        number: key_number(answer),
+        number: answer.number(),
         block,
     }
 }
@@ -324,7 +319,7 @@ fn moded(operation: Operation, key: &[u8], iv: &[u8], input: &[u8], output: &mut
     ensures written { λ _. ⌜ now (output .exit) ≡ afterMode operation (now (key .entry)) (now (iv .entry)) (now (input .entry)) (now (output .entry)) ⌝ }
 {
     let answer = modes::apply(operation, key, iv, input, output);
-    mode_number(answer)
+    answer.number()
 }
 
 fn turn_answer(t: Turn) -> TurnAnswer

@@ -8,6 +8,8 @@ use Rattle.header.specs.Layout.{bodySize}
 use Rattle.header.specs.declared.Head.{Head}
 use Rattle.header.specs.declared.Progress.{Progress}
 use Rattle.header.specs.declared.Reason.{Reason}
+use Rattle.header.specs.declared.Value.{Value}
+use Rattle.header.specs.declared.Value.the-variants.{Held, NoValue}
 use Rattle.header.specs.declared.Reason.the-variants.{AfterLast, CheckWrong, Count, Number, OtherCount, OtherRelease, NotBelow, Length, Reserved, FillNotZero}
 use Rattle.header.specs.declared.Verdict.{Verdict}
 use Rattle.header.specs.declared.Verdict.the-variants.{Accepted, Refused}
@@ -38,10 +40,10 @@ reasonValue CheckWrong = []
 reasonValue FillNotZero = []
 reasonValue AfterLast = []
 
--- 0 where a block is accepted
-abbrev pub verdictNumber : Verdict → ℕ
-verdictNumber Accepted = 0
-verdictNumber (Refused r) = reasonNumber r
+-- as the code has it
+abbrev pub valueOf : List ℕ → Value
+valueOf [] = NoValue
+valueOf (v ∷ vs) = Held v
 
 -- tests, each with the reason that it gives where it holds: the first that holds refuses
 unfoldable pub firstOf : List (Bool × Reason) → Verdict

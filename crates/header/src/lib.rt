@@ -5,7 +5,7 @@ ghost use mathlib.Core.Bool.{_&&_, _||_, not};
 ghost use Prim.Native.Nat.{_+_, _*_, _/_, _%_};
 ghost use lib.Dec.{eqb, ltb, leb};
 ghost use Rattle.header.specs.Layout.{bodySize, headOf, headBytes};
-ghost use Rattle.header.specs.Rules.{firstOf, done, countFits, lengthFits, headTests};
+ghost use Rattle.header.specs.Rules.{reasonNumber, reasonValue, valueOf, firstOf, done, countFits, lengthFits, headTests};
 
 pub struct Head {
     pub number: u32,
@@ -35,6 +35,48 @@ pub enum Reason {
     Length(u16),
     Reserved(u16),
     FillNotZero,
+}
+
+// The value that a reason holds, where it holds one.
+pub enum Value {
+    Held(u32),
+    NoValue,
+}
+
+impl Reason {
+    pub fn number(self) -> u32
+        ensures { λ r. ⌜ r ≡ reasonNumber self ⌝ }
+    {
+        match self {
+            Reason::Count(n) => 7,
+            Reason::Number(n) => 8,
+            Reason::OtherCount(n) => 9,
+            Reason::OtherRelease(n) => 10,
+            Reason::NotBelow(n) => 11,
+            Reason::Length(n) => 12,
+            Reason::Reserved(n) => 13,
+            Reason::CheckWrong => 14,
+            Reason::FillNotZero => 15,
+            Reason::AfterLast => 16,
+        }
+    }
+
+    pub fn value(self) -> Value
+        ensures { λ r. ⌜ r ≡ valueOf (reasonValue self) ⌝ }
+    {
+        match self {
+            Reason::Count(n) => Value::Held(n),
+            Reason::Number(n) => Value::Held(n),
+            Reason::OtherCount(n) => Value::Held(n),
+            Reason::OtherRelease(n) => Value::Held(n),
+            Reason::NotBelow(n) => Value::Held(n),
+            Reason::Length(n) => Value::Held(n as u32),
+            Reason::Reserved(n) => Value::Held(n as u32),
+            Reason::CheckWrong => Value::NoValue,
+            Reason::FillNotZero => Value::NoValue,
+            Reason::AfterLast => Value::NoValue,
+        }
+    }
 }
 
 pub enum Verdict {

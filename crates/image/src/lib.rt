@@ -35,6 +35,21 @@ pub enum WriteAnswer {
     WriteRoom,
 }
 
+impl WriteAnswer {
+    pub fn number(self) -> u32
+        ensures { λ r. ⌜ r ≡ spec.writeNumber self ⌝ }
+    {
+        match self {
+            WriteAnswer::Written => 0,
+            WriteAnswer::WriteKey => 1,
+            WriteAnswer::WriteRoom => 4,
+            WriteAnswer::WriteCount => 7,
+            WriteAnswer::WriteNumber => 8,
+            WriteAnswer::WriteLength => 12,
+        }
+    }
+}
+
 // The schedules of the encryption key and of the check key, and how far the reader has come.
 pub struct Reader {
     pub enc: KeySchedule,
@@ -57,6 +72,20 @@ pub enum Stop {
     At(usize, Reason),
 }
 
+impl Stop {
+    pub fn number(self) -> u32
+        ensures { λ r. ⌜ r ≡ spec.stopNumber self ⌝ }
+    {
+        match self {
+            Stop::End => 0,
+            Stop::Room => 4,
+            Stop::Asked => 5,
+            Stop::Lent => 6,
+            Stop::At(place, reason) => reason.number(),
+        }
+    }
+}
+
 // The reader after a turn, the blocks accepted, the sum of their payload lengths, and how it stopped.
 pub struct Turn {
     pub reader: Reader,
@@ -68,6 +97,17 @@ pub struct Turn {
 pub enum Completion {
     Complete,
     NotComplete,
+}
+
+impl Completion {
+    pub fn number(self) -> u32
+        ensures { λ r. ⌜ r ≡ spec.completionNumber self ⌝ }
+    {
+        match self {
+            Completion::Complete => 0,
+            Completion::NotComplete => 17,
+        }
+    }
 }
 
 // The rounds of the two schedules, where their words are lent.

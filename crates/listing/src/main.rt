@@ -1,5 +1,4 @@
 // Lists the blocks of an image. Standard input has two keys of 16 bytes and then the blocks; each block gets a line.
-mod numbers;
 mod rows;
 
 use image::ReadStarted;
@@ -7,8 +6,6 @@ use image::Reader;
 use image::Turn;
 use libc::STDIN_FILENO;
 use libc::STDOUT_FILENO;
-use numbers::completion_number;
-use numbers::stop_number;
 use schedule::KeyAnswer;
 
 // The lines that wait to be written. A line has at most 63 bytes: three numbers of up to 20 digits, two spaces, a line feed.
@@ -71,7 +68,7 @@ fn offer(l: Listed, lent: &[u8], text: &mut Text) -> Listed {
     let expected = before.progress.next as u64;
     let t = ask_one(before, lent);
     let stop = t.stop;
-    let answer = stop_number(stop);
+    let answer = stop.number() as u64;
     let reader = t.reader;
     let end = rows::block(expected, answer, t.bytes as u64, text, l.end);
     if answer == 0 {
@@ -122,7 +119,7 @@ fn list_blocks(reader: Reader, text: &mut Text) -> Listed {
 fn close(l: Listed, text: &mut Text) {
     let reader = l.reader;
     let accepted = reader.progress.next;
-    let complete = completion_number(image::read_complete(reader));
+    let complete = image::read_complete(reader).number() as u64;
     let end = rows::last(complete, accepted as u64, text, l.end);
     write_out(end, text);
 }

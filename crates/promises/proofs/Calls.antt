@@ -22,7 +22,6 @@ use Rattle.words.proofs.middles.Reads as middles
 use Rattle.schedule.proofs.KeySchedule.new.Reads as new
 use Rattle.schedule.proofs.is_round_count.Reads as is-round-count
 use Rattle.words.proofs.word_bytes.Reads as word-bytes
-use Rattle.schedule.proofs.KeyAnswer.number.Reads as key-number
 use Rattle.schedule.proofs.RoundKeyNumber.first_word.Reads as first-word
 use Rattle.tables.proofs.forward_table.Reads as forward-table
 use Rattle.tables.proofs.inverse_table.Reads as inverse-table
@@ -171,12 +170,6 @@ word-bytes-asks-nothing κs a = tt
 
 pub word-bytes-determined : (κs : _) (a : _) (r r′ : _) (s s′ : _) → word-bytes.Post κs a r s → word-bytes.Post κs a r′ s′ → r ≡ r′
 word-bytes-determined κs a r r′ s s′ p q = p ∙ sym q
-
-pub key-number-asks-nothing : (κs : _) (a : _) → key-number.Asked κs a
-key-number-asks-nothing κs a = tt
-
-pub key-number-determined : (κs : _) (a : _) (r r′ : _) (s s′ : _) → key-number.Post κs a r s → key-number.Post κs a r′ s′ → r ≡ r′
-key-number-determined κs a r r′ s s′ p q = p ∙ sym q
 
 pub first-word-asks-nothing : (κs : _) (a : _) → first-word.Asked κs a
 first-word-asks-nothing κs a = tt

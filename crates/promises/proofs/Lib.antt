@@ -2,6 +2,7 @@ pub mod HandCases
 pub mod Calls
 pub mod Cipher
 pub mod Keys
+pub mod Numbers
 pub mod Modes
 pub mod Check
 pub mod Text

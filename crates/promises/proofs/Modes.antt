@@ -35,7 +35,6 @@ use Rattle.modes.specs.declared.ModeAnswer.the-variants.{Done, BadKey, BadIv, N
 use Rattle.modes.proofs.Answers.{kept}
 use Rattle.promises.proofs.Keys.{KeyTaken}
 use Rattle.modes.proofs.apply.Reads as apply
-use Rattle.modes.proofs.ModeAnswer.number.Reads as mode-number
 use Rattle.steps.proofs.step.Reads as step
 use Rattle.pieces.proofs.run.Reads as run
 
@@ -70,12 +69,6 @@ apply-determined κs a r r′ s s′ p q =
 pub apply-refused-keeps : (κs : _) (a : _) (r : _) (s : _) → apply.Post κs a r s → (modeNumber r ≡ 0 → ⊥)
     → now (s .1 .1 .1 .1 .0) ≡ now (a .1 .1 .1 .1 .0)
 apply-refused-keeps κs a r s p h = p .1 ∙ kept r (a .0) (now (a .1 .0)) (now (a .1 .1 .0)) (now (a .1 .1 .1 .0)) (now (a .1 .1 .1 .1 .0)) h
-
-pub mode-number-asks-nothing : (κs : _) (a : _) → mode-number.Asked κs a
-mode-number-asks-nothing κs a = tt
-
-pub mode-number-determined : (κs : _) (a : _) (r r′ : _) (s s′ : _) → mode-number.Post κs a r s → mode-number.Post κs a r′ s′ → r ≡ r′
-mode-number-determined κs a r r′ s s′ p q = p ∙ sym q
 
 pub step-asks-nothing : (κs : _) (a : _) → step.Asked κs a
 step-asks-nothing κs a = tt

@@ -16,7 +16,6 @@ use Rattle.promises.proofs.WrapTerms.{afterWrap, afterUnwrap, WrapFit, 
 use Rattle.promises.proofs.WrapLaws.{wrap-keeps, unwrap-keeps}
 use Rattle.promises.proofs.Wrap.{wrap-answer-as-told, unwrap-answer-as-told, wrap-never-19, fit-is-wrapped, fit-is-unwrapped, key-data-is-wrapped, unwrap-after-wrap, accepted-exactly-wrappings, accepted-is-handed-out}
 use Rattle.wrap.proofs.wrap.Reads as wrap
-use Rattle.wrap.proofs.WrapAnswer.number.Reads as wrap-number
 use Rattle.wrap.proofs.unwrap.Reads as unwrap
 
 -- ---- demand 1
@@ -33,12 +32,6 @@ wrap-determined κs a r r′ s s′ p q =
 pub wrap-refused-keeps : (κs : _) (a : _) (r : _) (s : _) → wrap.Post κs a r s → (wrapNumber r ≡ 0 → ⊥)
     → now (s .1 .1 .0) ≡ now (a .1 .1 .0)
 wrap-refused-keeps κs a r s p h = p .1 ∙ wrap-keeps r (now (a .0)) (now (a .1 .0)) (now (a .1 .1 .0)) h
-
-pub wrap-number-asks-nothing : (κs : _) (a : _) → wrap-number.Asked κs a
-wrap-number-asks-nothing κs a = tt
-
-pub wrap-number-determined : (κs : _) (a : _) (r r′ : _) (s s′ : _) → wrap-number.Post κs a r s → wrap-number.Post κs a r′ s′ → r ≡ r′
-wrap-number-determined κs a r r′ s s′ p q = p ∙ sym q
 
 pub unwrap-asks-nothing : (κs : _) (a : _) → unwrap.Asked κs a
 unwrap-asks-nothing κs a = tt

@@ -7,11 +7,11 @@ use Rattle.dock.proofs.dock_check.Tie as tie
 check-requires : tie.Need-check-requires
 check-requires c κs = search needs
 
-key-number-requires : tie.Need-key-number-requires
-key-number-requires c κs = search needs
+number-requires : tie.Need-number-requires
+number-requires c κs = search needs
 
 returns : tie.Need-returns
-returns c = rw (c .key-number .ensures) (ap checkAnswer (c .before .before .check .ensures))
+returns c = rw (c .number .ensures) (ap checkAnswer (c .before .before .check .ensures))
 
 pub dock-check-spec : {M : Type 1} → statement M
-dock-check-spec = tie.close (tie.spec check-requires key-number-requires returns)
+dock-check-spec = tie.close (tie.spec check-requires number-requires returns)

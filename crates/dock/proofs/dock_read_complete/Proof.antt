@@ -10,13 +10,13 @@ reader-of-requires c κs = search needs
 read-complete-requires : tie.Need-read-complete-requires
 read-complete-requires c κs = search needs
 
-completion-number-requires : tie.Need-completion-number-requires
-completion-number-requires c κs = search needs
+number-requires : tie.Need-number-requires
+number-requires c κs = search needs
 
 returns : tie.Need-returns
-returns c = c .completion-number .ensures ∙ ap completionNumber (c .before .read-complete .ensures ∙ ap completionOf (c .before .before .reader-of .ensures))
+returns c = c .number .ensures ∙ ap completionNumber (c .before .read-complete .ensures ∙ ap completionOf (c .before .before .reader-of .ensures))
 
 pub dock-read-complete-spec : {M : Type 1} → statement M
 dock-read-complete-spec =
     tie.close
-    (tie.spec reader-of-requires read-complete-requires completion-number-requires returns)
+    (tie.spec reader-of-requires read-complete-requires number-requires returns)

@@ -7,11 +7,11 @@ use Rattle.dock.proofs.dock_schedule.Tie as tie
 new-requires : tie.Need-new-requires
 new-requires c κs = search needs
 
-key-number-requires : tie.Need-key-number-requires
-key-number-requires c κs = search needs
+number-requires : tie.Need-number-requires
+number-requires c κs = search needs
 
 returns : tie.Need-returns
-returns c = rw (c .key-number .ensures) (ap scheduleAnswer (c .before .before .before .new .ensures))
+returns c = rw (c .number .ensures) (ap scheduleAnswer (c .before .before .before .new .ensures))
 
 pub dock-schedule-spec : {M : Type 1} → statement M
-dock-schedule-spec = tie.close (tie.spec new-requires key-number-requires returns)
+dock-schedule-spec = tie.close (tie.spec new-requires number-requires returns)

@@ -8,8 +8,8 @@ use Rattle.dock.proofs.dock_write.Tie as tie
 write-requires : tie.Need-write-requires
 write-requires c κs = search needs
 
-write-number-requires : tie.Need-write-number-requires
-write-number-requires c κs = search needs
+number-requires : tie.Need-number-requires
+number-requires c κs = search needs
 
 same-length : tie.Need-same-length
 same-length c = search needs
@@ -19,9 +19,9 @@ returns c =
     let m = c .before .before .before in
     let a = m .before .before .before .before .before .before .args in
     let e = m .write .ensures in (
-      c .write-number .ensures ∙ ap writeNumber (e .0),
+      c .number .ensures ∙ ap writeNumber (e .0),
       e .1 ∙ ap (λ (x : WriteAnswer). writeOutput x (a .ekey .now) (a .ckey .now) (a .number) (a .count) (a .release) (a .payload .now) (a .output .now)) (e .0),
     )
 
 pub dock-write-spec : {M : Type 1} → statement M
-dock-write-spec = tie.close (tie.spec write-requires write-number-requires same-length returns)
+dock-write-spec = tie.close (tie.spec write-requires number-requires same-length returns)

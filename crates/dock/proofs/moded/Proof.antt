@@ -9,8 +9,8 @@ use Rattle.dock.proofs.moded.Tie as tie
 apply-requires : tie.Need-apply-requires
 apply-requires c κs = search needs
 
-mode-number-requires : tie.Need-mode-number-requires
-mode-number-requires c κs = search needs
+number-requires : tie.Need-number-requires
+number-requires c κs = search needs
 
 same-length : tie.Need-same-length
 same-length c = search needs
@@ -21,9 +21,9 @@ returns c =
     let m = c .before .before .before in
     let a = m .before .before .before .before .before .before .args in
     let e = m .apply .ensures in (
-      c .mode-number .ensures ∙ ap modeNumber (e .0),
+      c .number .ensures ∙ ap modeNumber (e .0),
       e .1 ∙ ap (λ (x : ModeAnswer). modeOutput x (a .operation) (a .key .now) (a .iv .now) (a .input .now) (a .output .now)) (e .0),
     )
 
 pub moded-spec : {M : Type 1} → statement M
-moded-spec = tie.close (tie.spec apply-requires mode-number-requires same-length returns)
+moded-spec = tie.close (tie.spec apply-requires number-requires same-length returns)

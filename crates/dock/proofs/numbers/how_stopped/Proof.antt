@@ -31,8 +31,8 @@ whole-requires-4 c κs = search needs
 enum-known-stop : tie.Need-enum-known-stop
 enum-known-stop c = search needs
 
-reason-number-requires : tie.Need-reason-number-requires
-reason-number-requires c κs = search needs
+number-requires : tie.Need-number-requires
+number-requires c κs = search needs
 
 value-held-requires : tie.Need-value-held-requires
 value-held-requires c κs = search needs
@@ -50,7 +50,7 @@ returns-4 : tie.Need-returns-4
 returns-4 c = c .whole4 .ensures ∙ sym (ap toldOf (c .before .enum-told4 .given .1))
 
 returns-5 : tie.Need-returns-5
-returns-5 c = rw (c .value-held .ensures, c .before .reason-number .ensures) (sym (ap toldOf (c .before .before .before .stop .given .1)))
+returns-5 c = rw (c .value-held .ensures, c .before .number .ensures) (sym (ap toldOf (c .before .before .before .stop .given .1)))
 
 pub how-stopped-spec : {M : Type 1} → statement M
 how-stopped-spec =
@@ -65,7 +65,7 @@ how-stopped-spec =
     enum-told-4
     whole-requires-4
     enum-known-stop
-    reason-number-requires
+    number-requires
     value-held-requires
     returns
     returns-2
