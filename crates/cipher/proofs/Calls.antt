@@ -1,17 +1,19 @@
 -- The tables that the calls make are those of the standard, so a block under a key is the standard's. Assumes nothing.
-use mathlib.Core.Path.{_≡_}
+use mathlib.Core.Path.{_≡_, refl}
+use mathlib.Core.Bool.{Bool, true, false}
 use mathlib.Core.List.{List}
 use Prim.Native.Nat.{ℕ}
-use Rattle.octets.specs.Octets.{Octets, entry}
+use lib.ListN.{replicate}
+use Rattle.octets.specs.Octets.{Octets, choose, tabulate, entry}
 use Rattle.sbox.specs.Sbox.{sBox, invSBox}
 use Rattle.sbox.proofs.Laws.{entry-table, sBox-lt, invSBox-lt}
 use Rattle.words.specs.Columns.{mixedEntry, invMixedEntry}
-use Rattle.schedule.specs.Schedule.{scheduleOf}
+use Rattle.schedule.specs.Schedule.{scheduleOf, roundCount}
 use Rattle.schedule.specs.declared.Expanded.{Expanded}
 use Rattle.cipher.specs.declared.Ciphered.{Ciphered}
 use Rattle.fips197.specs.Cipher.{rounds}
 use Rattle.cipher.specs.Calls.{encryptUnder, decryptUnder}
-use Rattle.lookups.specs.Tables.{tableEncrypt, tableDecrypt, inverseWords}
+use Rattle.lookups.specs.Tables.{tableEncrypt, tableDecrypt, inverseWord, inverseWords}
 use Rattle.lookups.proofs.Tables.{encrypt-table, decrypt-table}
 use Rattle.tables.specs.Tables.{forwardTable, inverseTable}
 
@@ -27,3 +29,11 @@ module _ (key : List ℕ) {b : List ℕ} (o : Octets 16 b) where
   unfolding decryptUnder
   decrypt-under k t v r pt pk pv pr =
       rw (pr, pv, pk, pt, decrypt-table invSBox invSBox-lt (entry inverseTable) (entry-table (invMixedEntry invSBox)) (scheduleOf sBox key .schedule .words) (scheduleOf sBox key .schedule .rounds) o)
+
+pub words-back : (w : List ℕ) (nr : ℕ) → tabulate 60 (λ i. choose (roundCount nr) (inverseWord w nr i) 0) ≡ inverseWords w nr
+unfolding inverseWords
+words-back w nr = go (roundCount nr)
+  where
+    go : (b : Bool) → tabulate 60 (λ i. choose b (inverseWord w nr i) 0) ≡ choose b (tabulate 60 (inverseWord w nr)) (replicate 60 0)
+    go true = refl
+    go false = refl

@@ -10,7 +10,9 @@ use tables::inverse_table;
 use words::inv_mix_column;
 ghost use mathlib.Core.Path.{_≡_};
 ghost use Prim.Native.Nat.{_<_};
-ghost use Rattle.octets.specs.Octets.{tabulate, entry};
+ghost use lib.ListN.{length};
+ghost use Rattle.octets.specs.Octets.{choose};
+ghost use Rattle.schedule.specs.Schedule.{roundCount};
 ghost use Rattle.cipher.specs.Calls.{encryptUnder, decryptUnder};
 ghost use Rattle.lookups.specs.Tables.{inverseWord, inverseWords};
 
@@ -42,7 +44,8 @@ pub fn decrypt(key: &[u8], block: [u8; 16]) -> Ciphered
     let answer = made.answer;
     let schedule = made.schedule;
     let words = schedule.words;
-    let back = inverse_words(&words, schedule.rounds);
+    let mut back = [0u32; 60];
+    inverse_words(&words, schedule.rounds, &mut back);
     let table = inverse_table();
     let plaintext = decrypt_block(&table, &back, schedule.rounds, block);
     Ciphered {
@@ -52,24 +55,30 @@ pub fn decrypt(key: &[u8], block: [u8; 16]) -> Ciphered
 }
 
 // The schedule for the way back, as FIPS 197, 5.3.5 has it: the round keys mixed back, so that lookups can mix the state before a key is added.
-pub fn inverse_words(words: &[u32; 60], rounds: usize) -> [u32; 60]
-    ensures { λ r. ⌜ r ≡ inverseWords (now (words .entry)) rounds ⌝ }
+// It is put where the caller has room: as a result it would be laid out on the stack a second time.
+pub fn inverse_words(words: &[u32; 60], rounds: usize, back: &mut [u32; 60])
+    ensures { λ _. ⌜ now (back .exit) ≡ inverseWords (now (words .entry)) rounds ⌝ }
 {
-    if is_round_count(rounds) {
-        return turned_back(words, rounds);
-    }
-    [0u32; 60]
+    put_words(words, rounds, back);
 }
 
-fn turned_back(words: &[u32; 60], rounds: usize) -> [u32; 60]
-    requires { ⌜ rounds < 15 ⌝ }
-    ensures { λ r. ⌜ r ≡ tabulate 60 (inverseWord (now (words .entry)) rounds) ⌝ }
+fn put_words(words: &[u32; 60], rounds: usize, back: &mut [u32])
+    requires { ⌜ length (now back) ≡ 60 ⌝ }
+    ensures { λ _. ⌜ now (back .exit) ≡ inverseWords (now (words .entry)) rounds ⌝ }
 {
-    let mut back = [0u32; 60];
     for i in 0..60 {
-        back[i] = inverse_word(words, rounds, i);
+        back[i] = word_or_zero(words, rounds, i);
     }
-    back
+}
+
+fn word_or_zero(words: &[u32; 60], rounds: usize, i: usize) -> u32
+    requires { ⌜ i < 60 ⌝ }
+    ensures { λ r. ⌜ r ≡ choose (roundCount rounds) (inverseWord (now (words .entry)) rounds i) 0 ⌝ }
+{
+    if is_round_count(rounds) {
+        return inverse_word(words, rounds, i);
+    }
+    0
 }
 
 fn inverse_word(words: &[u32; 60], rounds: usize, i: usize) -> u32

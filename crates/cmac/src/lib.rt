@@ -6,6 +6,7 @@ use tables::forward_table;
 ghost use mathlib.Core.Path.{_≡_};
 ghost use Rattle.lookups.specs.Tables.{oneTable};
 ghost use Rattle.sp800_38b.specs.Cmac as spec;
+ghost use Rattle.running.specs.Running as running;
 ghost use Rattle.cmac.specs.Calls as calls;
 
 // The answer for the key, and the check: zeros where the key was refused.
@@ -71,17 +72,26 @@ pub fn close(record: Record) -> [u8; 16]
     ensures { λ r. ⌜ r ≡ calls.closeOf «record» ⌝ }
 {
     let table = forward_table();
-    let words = record.words;
-    run_of(record).closed(&table, &words, record.rounds)
+    let run = run_of(record);
+    let rounds = record.rounds;
+    close_run(&table, &record.words, rounds, run)
 }
 
 // The check under a schedule, with the forward table lent, for callers that make many.
 pub fn check_with(table: &[u32; 256], words: &[u32; 60], rounds: usize, message: &[u8]) -> [u8; 16]
     ensures { λ r. ⌜ r ≡ spec.cmac (oneTable (now (table .entry)) (now (words .entry)) rounds) (now (message .entry)) ⌝ }
 {
-    Run::new()
-        .fed(table, words, rounds, message)
-        .closed(table, words, rounds)
+    let run = Run::new().fed(table, words, rounds, message);
+    close_run(table, words, rounds, run)
+}
+
+// The check of a run, with the subkeys made for it.
+fn close_run(table: &[u32; 256], words: &[u32; 60], rounds: usize, run: Run) -> [u8; 16]
+    ensures { λ r. ⌜ r ≡ running.closed (oneTable (now (table .entry)) (now (words .entry)) rounds) run ⌝ }
+{
+    let key1 = subkeys::key1(table, words, rounds);
+    let key2 = subkeys::key2(key1);
+    run.closed(table, words, rounds, &key1, &key2)
 }
 
 fn run_of(record: Record) -> Run

@@ -1,4 +1,4 @@
--- A block of an image: where its parts lie, and its header (document 01, 'Image blocks'). Assumes nothing: these are definitions.
+-- A block of an image: where its parts lie, and its header (docs/IMAGE.md). Assumes nothing: these are definitions.
 use Prim.Native.Nat.{ℕ, _+_, _*_, _/_, _%_}
 use mathlib.Core.List.{List, [], _∷_, _++_}
 use lib.ListN.{getD}

@@ -1,4 +1,4 @@
--- What a header must say, and the order in which it is asked (document 01, 'Numbers of the refusals'). Assumes nothing: these are definitions.
+-- What a header must say, and the order in which it is asked (docs/REFUSALS.md). Assumes nothing: these are definitions.
 use Prim.Native.Nat.{ℕ, _+_}
 use mathlib.Core.Bool.{Bool, _&&_, _||_, not}
 use mathlib.Core.List.{List, [], _∷_}
@@ -14,7 +14,7 @@ use Rattle.header.specs.declared.Reason.the-variants.{AfterLast, CheckWr
 use Rattle.header.specs.declared.Verdict.{Verdict}
 use Rattle.header.specs.declared.Verdict.the-variants.{Accepted, Refused}
 
--- document 01's number for each reason
+-- the number of each reason (docs/REFUSALS.md)
 abbrev pub reasonNumber : Reason → ℕ
 reasonNumber (Count v) = 7
 reasonNumber (Number v) = 8
@@ -40,7 +40,12 @@ reasonValue CheckWrong = []
 reasonValue FillNotZero = []
 reasonValue AfterLast = []
 
--- as the code has it
+-- 0 where a block is accepted
+abbrev pub verdictNumber : Verdict → ℕ
+verdictNumber Accepted = 0
+verdictNumber (Refused r) = reasonNumber r
+
+-- a value as the code has it
 abbrev pub valueOf : List ℕ → Value
 valueOf [] = NoValue
 valueOf (v ∷ vs) = Held v
@@ -63,14 +68,14 @@ unfoldable pub lengthFits : (number count len : ℕ) → Bool
 lengthFits number count len =
     choose (eqb (number + 1) count) (leb len bodySize && (ltb 0 len || eqb count 1)) (eqb len bodySize)
 
--- 7, 8, 9, 10, 11, 12, 13 of a block's own header, in that order
-unfoldable pub headTests : Progress → Head → List (Bool × Reason)
-headTests s h =
+-- 7, 8, 9, 10, 11, 12, 13 of a block's own header, in that order; an edition's mark is what its reserved number is to be
+unfoldable pub headTests : (mark : ℕ) → Progress → Head → List (Bool × Reason)
+headTests mark s h =
     (not (countFits (h .count)), Count (h .count))
     ∷ (not (eqb (h .number) (s .next)), Number (h .number))
     ∷ (s .fixed && not (eqb (h .count) (s .count)), OtherCount (h .count))
     ∷ (s .fixed && not (eqb (h .release) (s .release)), OtherRelease (h .release))
     ∷ (not (ltb (h .number) (h .count)), NotBelow (h .number))
     ∷ (not (lengthFits (h .number) (h .count) (h .len)), Length (h .len))
-    ∷ (not (eqb (h .reserved) 0), Reserved (h .reserved))
+    ∷ (not (eqb (h .reserved) mark), Reserved (h .reserved))
     ∷ []

@@ -154,26 +154,28 @@ pub fn length_fits(number: u32, count: u32, len: usize) -> bool
     }
 }
 
-// What the tests 7 to 13 say of a header, asked in that order.
-pub fn judge_head(progress: Progress, head: Head) -> Verdict
-    ensures { λ r. ⌜ r ≡ firstOf (headTests progress head) ⌝ }
+// What the tests 7 to 13 say of a header, asked in that order; the reserved number is to be the mark.
+pub fn judge_head(progress: Progress, head: Head, mark: u16) -> Verdict
+    ensures { λ r. ⌜ r ≡ firstOf (headTests mark progress head) ⌝ }
 {
-    let fixed = progress.fixed;
     let number = head.number;
     let count = head.count;
     let release = head.release;
     let len = head.len;
     let reserved = head.reserved;
+    let other_number = number != progress.next;
+    let other_count = differs(progress.fixed, count, progress.count);
+    let other_release = differs(progress.fixed, release, progress.release);
     if !count_fits(count) {
         return Verdict::Refused(Reason::Count(count));
     }
-    if number != progress.next {
+    if other_number {
         return Verdict::Refused(Reason::Number(number));
     }
-    if differs(fixed, count, progress.count) {
+    if other_count {
         return Verdict::Refused(Reason::OtherCount(count));
     }
-    if differs(fixed, release, progress.release) {
+    if other_release {
         return Verdict::Refused(Reason::OtherRelease(release));
     }
     if number >= count {
@@ -182,7 +184,7 @@ pub fn judge_head(progress: Progress, head: Head) -> Verdict
     if !length_fits(number, count, len as usize) {
         return Verdict::Refused(Reason::Length(len));
     }
-    if reserved != 0 {
+    if reserved != mark {
         return Verdict::Refused(Reason::Reserved(reserved));
     }
     Verdict::Accepted

@@ -1,24 +1,24 @@
 -- A turn block by block: what is left to do from block j on, put behind what was done, is the whole turn. Assumes nothing.
 use mathlib.Core.Path.{_≡_, refl, sym, ap, ap₂, _∙_}
-use mathlib.Core.List.{List, [], _++_, append-assoc}
-use Prim.Native.Nat.{ℕ, suc, _+_, _-_, _*_, _≤_, _<_}
+use mathlib.Core.List.{List, [], _∷_, _++_, append-assoc}
+use Prim.Native.Nat.{ℕ, suc, _+_, _-_, _*_, _%_, _≤_, _<_}
 use native.Mathlib.Nat.{zero-add, add-zero}
 use native.Mathlib.Omega.{arith}
-use lib.ListN.{length, take, drop, length-append, take-append-drop}
-use lib.Seq.{paste, take-all, take-paste, drop-paste, drop-drop}
+use lib.ListN.{length, take, drop, length-append, length-drop, take-append-drop}
+use lib.Seq.{take-at, drop-at, drop-drop, length-take-le}
+use Rattle.octets.specs.Octets.{over}
 use Rattle.header.specs.Layout.{headOf}
+use Rattle.header.specs.declared.Head.{Head}
 use Rattle.header.specs.declared.Progress.{Progress}
 use Rattle.header.specs.declared.Reason.{Reason}
 use Rattle.header.specs.declared.Verdict.{Verdict}
 use Rattle.header.specs.declared.Verdict.the-variants.{Accepted, Refused}
-use Rattle.octets.specs.Octets.{over}
-use Rattle.image.specs.Sealed.{opened}
-use Rattle.image.specs.Judge.{Keys, judge, taken}
+use Rattle.format.specs.Edition.{one}
+use Rattle.format.specs.Judge.{Keys, Standing, standing, advanced, taken, judge, BlockReader, ofEdition}
 use Rattle.image.specs.Turn.{Reading, later, onward, ran, cut}
-use Rattle.image.specs.Lent.{outAfter, tookAfter, ranOf}
+use Rattle.image.specs.Lent.{following, ranWith, ranOf}
 use Rattle.image.specs.declared.Stop.{Stop}
 use Rattle.image.specs.declared.Stop.the-variants.{End, Asked, Lent, Room, At}
-use Rattle.image.specs.declared.turns.Took.{Took}
 use Rattle.image.specs.declared.turns.Ran.{Ran}
 
 -- a place counted from j blocks earlier
@@ -48,7 +48,7 @@ later-none Room = refl
 -- a reading of the rest, after j blocks with so many bytes that left this output
 pub finish : (j bytes : ℕ) → List ℕ → Reading → Ran × List ℕ
 finish j bytes out t = (
-  record { progress = t .progress; accepted = j + t .accepted; bytes = bytes + t .bytes; stop = laterBy j (t .stop) },
+  ranWith (t .standing .progress) (j + t .accepted) (bytes + t .bytes) (laterBy j (t .stop)),
   take (j * 480) out ++ (t .out ++ drop (j * 480 + length (t .out)) out),
 )
 
@@ -56,94 +56,128 @@ pub finish-start : (out : List ℕ) (t : Reading) → finish 0 0 out t ≡ (ranO
 unfolding finish
 finish-start out t = rw (zero-add (t .accepted), zero-add (t .bytes), later-none (t .stop), zero-add (length (t .out)))
 
-module _ (j bytes : ℕ) (out : List ℕ) (s : Progress) where
+module _ (j bytes : ℕ) (out : List ℕ) (s : Standing) where
   all-back : take (j * 480) out ++ drop (j * 480 + 0) out ≡ out
   all-back = ap (λ (n : ℕ). take (j * 480) out ++ drop n out) (add-zero (j * 480)) ∙ take-append-drop (j * 480) out
 
-  finish-none : (x y : Stop) → laterBy j x ≡ y → finish j bytes out (record { progress = s; accepted = 0; bytes = 0; stop = x; out = [] }) ≡ (record { progress = s; accepted = j; bytes = bytes; stop = y }, out)
+  finish-none : (x y : Stop) → laterBy j x ≡ y → finish j bytes out (record { standing = s; accepted = 0; bytes = 0; stop = x; out = [] }) ≡ (ranWith (s .progress) j bytes y, out)
   unfolding finish
-  finish-none x y e = rw (add-zero j, add-zero bytes, e) (ap (λ (o : List ℕ). (record { progress = s; accepted = j; bytes = bytes; stop = y }, o)) all-back)
+  finish-none x y e = rw (add-zero j, add-zero bytes, e) (ap (λ (o : List ℕ). (ranWith (s .progress) j bytes y, o)) all-back)
 
-  finish-end : finish j bytes out (record { progress = s; accepted = 0; bytes = 0; stop = End; out = [] }) ≡ (record { progress = s; accepted = j; bytes = bytes; stop = End }, out)
+  finish-end : finish j bytes out (record { standing = s; accepted = 0; bytes = 0; stop = End; out = [] }) ≡ (ranWith (s .progress) j bytes End, out)
   unfolding laterBy
   finish-end = finish-none End End refl
 
-  finish-refused : (reason : Reason) → finish j bytes out (record { progress = s; accepted = 0; bytes = 0; stop = At 0 reason; out = [] }) ≡ (record { progress = s; accepted = j; bytes = bytes; stop = At j reason }, out)
+  finish-refused : (reason : Reason) → finish j bytes out (record { standing = s; accepted = 0; bytes = 0; stop = At 0 reason; out = [] }) ≡ (ranWith (s .progress) j bytes (At j reason), out)
   unfolding laterBy
   finish-refused reason = finish-none (At 0 reason) (At j reason) (ap (λ (n : ℕ). At n reason) (add-zero j))
 
-  module _ (len : ℕ) (plain : List ℕ) (t : Reading) (size : length plain ≡ 480) (room : j * 480 + 480 ≤ length out) where
+  -- the 480 bytes of an accepted block go behind those of the blocks before it
+  module _ (len : ℕ) (plain : List ℕ) (t : Reading) (size : length plain ≡ 480) (room : j * 480 + 480 ≤ length out) (new : List ℕ) (en : new ≡ take (j * 480) out ++ (plain ++ drop (j * 480 + 480) out)) where
     out-accepted : take (j * 480) out ++ ((plain ++ t .out) ++ drop (j * 480 + length (plain ++ t .out)) out)
-        ≡ take ((j + 1) * 480) (paste out (j * 480) plain 480) ++ (t .out ++ drop ((j + 1) * 480 + length (t .out)) (paste out (j * 480) plain 480))
+        ≡ take ((j + 1) * 480) new ++ (t .out ++ drop ((j + 1) * 480 + length (t .out)) new)
     out-accepted =
         let a = j * 480 in
-        let new = paste out a plain 480 in
+        let x = take a out ++ plain in
+        let y = drop (a + 480) out in
+        let la : length x ≡ a + 480 = length-append (take a out) plain ∙ omega (arith, length-take-le a out (omega arith)) in
+        let w : new ≡ x ++ y = en ∙ sym (append-assoc (take a out) plain y) in
         let b : (j + 1) * 480 ≡ a + 480 = omega arith in
         let n : a + length (plain ++ t .out) ≡ a + 480 + length (t .out) = omega (arith, length-append plain (t .out)) in
-        let front : take (a + 480) new ≡ take a out ++ plain = take-paste out a plain 480 (omega arith) (omega arith) ∙ ap (λ (x : List ℕ). take a out ++ x) (take-all 480 plain (omega arith)) in
+        let front : take (a + 480) new ≡ x = ap (take (a + 480)) w ∙ take-at x y (a + 480) la in
         let back : drop (a + 480 + length (t .out)) new ≡ drop (a + 480 + length (t .out)) out =
-        sym (drop-drop (length (t .out)) (a + 480) new) ∙ ap (drop (length (t .out))) (drop-paste out a plain 480 (omega arith) (omega arith)) ∙ drop-drop (length (t .out)) (a + 480) out in
+        sym (drop-drop (length (t .out)) (a + 480) new) ∙ ap (λ (s : List ℕ). drop (length (t .out)) (drop (a + 480) s)) w
+        ∙ ap (drop (length (t .out))) (drop-at x y (a + 480) la) ∙ drop-drop (length (t .out)) (a + 480) out in
         rw (b, n, front, back)
         (ap (λ (x : List ℕ). take a out ++ x) (append-assoc plain (t .out) (drop (a + 480 + length (t .out)) out)) ∙ sym (append-assoc (take a out) plain (t .out ++ drop (a + 480 + length (t .out)) out)))
 
-    finish-accepted : finish j bytes out (onward Accepted s len plain t) ≡ finish (j + 1) (bytes + len) (paste out (j * 480) plain 480) t
+    finish-accepted : finish j bytes out (onward Accepted s len plain t) ≡ finish (j + 1) (bytes + len) new t
     unfolding finish
     finish-accepted =
         let e : j + suc (t .accepted) ≡ j + 1 + t .accepted = omega arith in
         let f : bytes + (len + t .bytes) ≡ bytes + len + t .bytes = omega arith in
-        rw (e, f, later-one j (t .stop)) (ap (λ (o : List ℕ). (record { progress = t .progress; accepted = j + 1 + t .accepted; bytes = bytes + len + t .bytes; stop = laterBy (j + 1) (t .stop) }, o)) out-accepted)
+        rw (e, f, later-one j (t .stop)) (ap (λ (o : List ℕ). (ranWith (t .standing .progress) (j + 1 + t .accepted) (bytes + len + t .bytes) (laterBy (j + 1) (t .stop)), o)) out-accepted)
 
 -- ---- one block more
+
+-- a reader that asks nothing of the check before says the same wherever it stands with this progress
+abbrev pub Forgets : BlockReader → Type 0
+Forgets d = (s : Progress) (x y b : List ℕ) → d .verdict (record { progress = s; last = x }) b ≡ d .verdict (record { progress = s; last = y }) b
+
+module _ (d : BlockReader) (f : Forgets d) where
+  finish-forgets : (j bytes : ℕ) (out : List ℕ) (s : Progress) (x y : List ℕ) (bs : List (List ℕ))
+      → finish j bytes out (ran d (record { progress = s; last = x }) bs) ≡ finish j bytes out (ran d (record { progress = s; last = y }) bs)
+  unfolding ran finish
+  finish-forgets j bytes out s x y [] = refl
+  finish-forgets j bytes out s x y (b ∷ bs) = rw (f s x y b) (go (d .verdict (record { progress = s; last = y }) b))
+    where
+      t : Reading
+      t = ran d (record { progress = advanced s (headOf b); last = drop 496 b }) bs
+
+      go : (v : Verdict) → finish j bytes out (onward v (record { progress = s; last = x }) (headOf b .len) (d .plain b) t)
+          ≡ finish j bytes out (onward v (record { progress = s; last = y }) (headOf b .len) (d .plain b) t)
+      go Accepted = refl
+      go (Refused reason) = refl
 
 pub part-is : (bl : List ℕ) (j : ℕ) → take (j * 512 + 512 - j * 512) (drop (j * 512) bl) ≡ take 512 (drop (j * 512) bl)
 part-is bl j =
     let e : j * 512 + 512 - j * 512 ≡ 512 = omega arith in
     ap (λ (n : ℕ). take n (drop (j * 512) bl)) e
 
-took-verdict : (v : Verdict) (s : Progress) (b : List ℕ) → tookAfter v s b .verdict ≡ v
-took-verdict Accepted s b = refl
-took-verdict (Refused reason) s b = refl
+module _ (d : BlockReader) (bl : List ℕ) (s : Progress) (j n bytes : ℕ) (out : List ℕ) where
+  left : ℕ → Standing → Reading
+  left i p = ran d p (cut (n - i) (drop (i * 512) bl))
 
-module _ (k : Keys) (bl : List ℕ) (s : Progress) (j n bytes : ℕ) (out : List ℕ) where
-  left : ℕ → Progress → Reading
-  left i p = ran k p (cut (n - i) (drop (i * 512) bl))
-
-  pub left-end : n ≤ j → (record { progress = s; accepted = j; bytes = bytes; stop = End }, out) ≡ finish j bytes out (ran k s (cut (n - j) (drop (j * 512) bl)))
+  pub left-end : n ≤ j → (ranWith s j bytes End, out) ≡ finish j bytes out (ran d (standing s) (cut (n - j) (drop (j * 512) bl)))
   unfolding ran cut
   left-end h =
       let e : n - j ≡ 0 = omega arith in
-      rw e (sym (finish-end j bytes out s))
+      rw e (sym (finish-end j bytes out (standing s)))
 
-  module _ (h : j < n) (b : List ℕ) (eb : b ≡ take 512 (drop (j * 512) bl)) where
-    left-step : left j s ≡ onward (judge k s b) s (headOf b .len) (opened (k .enc) b) (left (j + 1) (taken s (headOf b)))
+  module _ (h : j < n) (b : List ℕ) (eb : b ≡ take 512 (drop (j * 512) bl)) (v : Verdict) (ev : v ≡ d .verdict (standing s) b) where
+    left-step : left j (standing s) ≡ onward v (standing s) (headOf b .len) (d .plain b) (left (j + 1) (taken (standing s) b))
     unfolding left ran cut
     left-step =
         let e : n - j ≡ suc (n - (j + 1)) = omega arith in
         let i : (j + 1) * 512 ≡ j * 512 + 512 = omega arith in
-        let d : drop ((j + 1) * 512) bl ≡ drop 512 (drop (j * 512) bl) = ap (λ (m : ℕ). drop m bl) i ∙ sym (drop-drop 512 (j * 512) bl) in
-        rw (e, d, eb)
+        let q : drop ((j + 1) * 512) bl ≡ drop 512 (drop (j * 512) bl) = ap (λ (m : ℕ). drop m bl) i ∙ sym (drop-drop 512 (j * 512) bl) in
+        rw (e, q, ev, eb)
 
-    module _ (o : Took) (eo : o ≡ tookAfter (judge k s b) s b) (new : List ℕ) (en : new ≡ outAfter (o .verdict) (opened (k .enc) b) (j * 480) out) where
-      verdict-is : judge k s b ≡ o .verdict
-      verdict-is = sym (ap (λ (x : Took). x .verdict) eo ∙ took-verdict (judge k s b) s b)
+    pub step-refused : (reason : Reason) → v ≡ Refused reason → (ranWith s j bytes (At j reason), out) ≡ finish j bytes out (ran d (standing s) (cut (n - j) (drop (j * 512) bl)))
+    unfolding left
+    step-refused reason e =
+        let q : left j (standing s) ≡ record { standing = standing s; accepted = 0; bytes = 0; stop = At 0 reason; out = [] } =
+        left-step ∙ ap (λ (x : Verdict). onward x (standing s) (headOf b .len) (d .plain b) (left (j + 1) (taken (standing s) b))) e in
+        sym (ap (finish j bytes out) q ∙ finish-refused j bytes out (standing s) reason)
 
-      pub step-refused : (reason : Reason) → o .verdict ≡ Refused reason → (record { progress = s; accepted = j; bytes = bytes; stop = At j reason }, new) ≡ finish j bytes out (ran k s (cut (n - j) (drop (j * 512) bl)))
-      unfolding left
-      step-refused reason e =
-          let v : judge k s b ≡ Refused reason = verdict-is ∙ e in
-          let q : left j s ≡ record { progress = s; accepted = 0; bytes = 0; stop = At 0 reason; out = [] } = left-step ∙ ap (λ (x : Verdict). onward x s (headOf b .len) (opened (k .enc) b) (left (j + 1) (taken s (headOf b)))) v in
-          let m : new ≡ out = en ∙ ap (λ (x : Verdict). outAfter x (opened (k .enc) b) (j * 480) out) e in
-          sym (ap (finish j bytes out) q ∙ finish-refused j bytes out s reason ∙ ap (λ (x : List ℕ). (record { progress = s; accepted = j; bytes = bytes; stop = At j reason }, x)) (sym m))
+    pub step-accepted : Forgets d → v ≡ Accepted → length (d .plain b) ≡ 480 → j * 480 + 480 ≤ length out → s .next < 65535
+        → (head : Head) (next : Progress) (new : List ℕ) → head ≡ headOf b → next ≡ following s head → new ≡ take (j * 480) out ++ (d .plain b ++ drop (j * 480 + 480) out)
+        → finish (j + 1) (bytes + head .len) new (ran d (standing next) (cut (n - (j + 1)) (drop ((j + 1) * 512) bl))) ≡ finish j bytes out (ran d (standing s) (cut (n - j) (drop (j * 512) bl)))
+    unfolding left
+    step-accepted f e size room small head next new eh en eo =
+        let k : (s .next + 1) % 4294967296 ≡ s .next + 1 = omega arith in
+        let p : next ≡ advanced s (headOf b) = en ∙ rw (eh, k) in
+        let t = left (j + 1) (taken (standing s) b) in
+        ap₂ (λ (x : Progress) (y : Head). finish (j + 1) (bytes + y .len) new (left (j + 1) (standing x))) p eh
+        ∙ finish-forgets d f (j + 1) (bytes + headOf b .len) new (advanced s (headOf b)) (standing s .last) (drop 496 b) (cut (n - (j + 1)) (drop ((j + 1) * 512) bl))
+        ∙ sym (ap (finish j bytes out) (left-step ∙ ap (λ (x : Verdict). onward x (standing s) (headOf b .len) (d .plain b) t) e)
+        ∙ finish-accepted j bytes out (standing s) (headOf b .len) (d .plain b) t size room new eo)
 
-      pub step-accepted : o .verdict ≡ Accepted → length (opened (k .enc) b) ≡ 480 → j * 480 + 480 ≤ length out
-          → finish (j + 1) (bytes + o .len) new (ran k (o .progress) (cut (n - (j + 1)) (drop ((j + 1) * 512) bl))) ≡ finish j bytes out (ran k s (cut (n - j) (drop (j * 512) bl)))
-      unfolding left
-      step-accepted e size room =
-          let v : judge k s b ≡ Accepted = verdict-is ∙ e in
-          let plain = opened (k .enc) b in
-          let t = tookAfter Accepted s b in
-          let w : o ≡ t = eo ∙ ap (λ (x : Verdict). tookAfter x s b) v in
-          let m : new ≡ paste out (j * 480) plain 480 = en ∙ ap (λ (x : Verdict). outAfter x plain (j * 480) out) e in
-          ap₂ (λ (x : Took) (y : List ℕ). finish (j + 1) (bytes + x .len) y (left (j + 1) (x .progress))) w m
-          ∙ sym (ap (finish j bytes out) (left-step ∙ ap (λ (x : Verdict). onward x s (headOf b .len) plain (left (j + 1) (taken s (headOf b)))) v)
-          ∙ finish-accepted j bytes out s (headOf b .len) plain (left (j + 1) (taken s (headOf b))) size room)
+-- edition 1 does
+pub one-forgets : (k : Keys) → Forgets (ofEdition k one)
+unfolding judge
+one-forgets k s x y b = refl
+
+-- what a part of an output that was lent leaves of the whole
+pub part-put : (out : List ℕ) (at : ℕ) (x plain o : List ℕ) → x ≡ plain → o ≡ take at out ++ (x ++ drop (at + 480 - at) (drop at out)) → o ≡ take at out ++ (plain ++ drop (at + 480) out)
+part-put out at x plain o e eo =
+    let n : at + 480 - at ≡ 480 = omega arith in
+    eo ∙ rw (e, n, drop-drop 480 at out)
+
+pub part-size : (out : List ℕ) (at : ℕ) → at + 480 ≤ length out → length (take (at + 480 - at) (drop at out)) ≡ 480
+part-size out at h = length-take-le (at + 480 - at) (drop at out) (omega (arith, length-drop at out)) ∙ omega arith
+
+pub part-keeps : (out : List ℕ) (at : ℕ) (plain o : List ℕ) → at + 480 ≤ length out → length plain ≡ 480 → o ≡ take at out ++ (plain ++ drop (at + 480) out) → length o ≡ length out
+part-keeps out at plain o h size e =
+    ap length e ∙ length-append (take at out) (plain ++ drop (at + 480) out)
+    ∙ omega (arith, length-take-le at out (omega arith), length-append plain (drop (at + 480) out), length-drop (at + 480) out)

@@ -6,7 +6,7 @@ use Prim.Native.Nat.{ℕ, _+_, _*_, _%_, _≤_}
 use native.Mathlib.Omega.{arith}
 use types.Run.{OneOf, miss}
 use denote.Enum.Declared.{tagOf}
-use borrow.Author.Tests.{eqb-true, ltb-false, leb-true}
+use borrow.Author.Tests.{eqb-true, ltb-false, leb-true, le-leb}
 use lib.Dec.{eqb, ltb, leb}
 use lib.ListN.{length}
 use Rattle.octets.specs.Octets.{Bytes, choose, over}
@@ -14,14 +14,18 @@ use Rattle.sbox.specs.Sbox.{sBox}
 use Rattle.schedule.specs.Schedule.{scheduleOf, keyNumber}
 use Rattle.schedule.specs.declared.Expanded.{Expanded}
 use Rattle.schedule.specs.declared.KeyAnswer.the-variants.{Taken, KeyLength}
-use Rattle.lookups.specs.Tables.{inverseWords, oneTable}
+use Rattle.lookups.specs.Tables.{oneTable, inverseWords}
 use Rattle.tables.specs.Tables.{forwardTable, inverseTable}
 use Rattle.fips197.proofs.Aes.{key-lawful}
 use Rattle.header.specs.Rules.{countFits, lengthFits}
-use Rattle.image.specs.Sealed.{sealed}
+use Rattle.format.specs.Edition.{one}
+use Rattle.format.specs.Sealed.{headFor}
+use Rattle.format.specs.Judge.{standing, ofEdition}
+use Rattle.format.specs.Lent.{sealedOver}
+use Rattle.format.proofs.Agree.{sealed-same}
 use Rattle.image.specs.Turn.{Reading, ran, cut}
-use Rattle.image.specs.Calls.{bothTaken, writeRuled, writeAnswer, headFor, writeOutput, noSchedule, startWith, startOf, keysOf, handled, whole, turned, turnOf}
-use Rattle.image.specs.Lent.{lentKeys, ranOf}
+use Rattle.image.specs.Calls.{bothTaken, writeRuled, writeAnswer, writeOutput, noSchedule, startWith, startOf, blocksBy, handled, whole, turned, turnOf}
+use Rattle.image.specs.Lent.{sealedUnder, ranOf}
 use Rattle.image.specs.declared.WriteAnswer.{WriteAnswer}
 use Rattle.image.specs.declared.WriteAnswer.the-variants.{Written, WriteKey, WriteCount, WriteNumber, WriteLength, WriteRoom}
 use Rattle.image.specs.declared.Reader.{Reader}
@@ -30,7 +34,7 @@ use Rattle.image.specs.declared.Stop.the-variants.{Asked, Lent, Room}
 use Rattle.image.specs.declared.Turn.{Turn}
 use Rattle.image.specs.declared.turns.Ran.{Ran}
 use Rattle.image.proofs.WriteAnswer.{the-type}
-use Rattle.image.proofs.Agree.{sealed-same, ran-same}
+use Rattle.image.proofs.Agree.{ran-same}
 
 -- ---- a turn's own tests
 
@@ -56,35 +60,12 @@ module _ (r : Reader) (given : List ℕ) (asked : ℕ) (out : List ℕ) where
       unfolding turnOf
       turn-room e3 = let f : ltb (length out) (handled given asked * 480) ≡ true = rw (← ek) e3 in rw (e1, e2, f)
 
-      pub turn-read : ltb (length out) (k * 480) ≡ false → (t : Turn) (o : List ℕ) → t ≡ turned r (ran (keysOf r) (r .progress) (cut k given))
-          → o ≡ over (ran (keysOf r) (r .progress) (cut k given) .out) out → (t, o) ≡ turnOf r given asked out
+      pub turn-read : ltb (length out) (k * 480) ≡ false → (t : Turn) (o : List ℕ) → t ≡ turned r (ran (blocksBy r) (standing (r .progress)) (cut k given))
+          → o ≡ over (ran (blocksBy r) (standing (r .progress)) (cut k given) .out) out → (t, o) ≡ turnOf r given asked out
       unfolding turnOf
       turn-read e3 t o et eo =
           let f : ltb (length out) (handled given asked * 480) ≡ false = rw (← ek) e3 in
           ap₂ (λ (x : Turn) (y : List ℕ). (x, y)) et eo ∙ rw (e1, e2, f, ek)
-
--- ---- a turn over the tables that the call makes
-
-module _ (r : Reader) (given : List ℕ) (k : ℕ) (t t' v : List ℕ) (pt : t ≡ forwardTable) (pi : t' ≡ inverseTable) (pv : v ≡ inverseWords (r .enc .words) (r .enc .rounds)) (h : k * 512 ≤ length given) (b : Bytes given) where
-  reading : Reading
-  reading = ran (lentKeys t t' (r .enc .words) v (r .chk .words) (record { enc = r .enc .rounds; chk = r .chk .rounds })) (r .progress) (cut k given)
-
-  reading-is : reading ≡ ran (keysOf r) (r .progress) (cut k given)
-  unfolding reading
-  reading-is = ran-same t t' pt pi (r .enc .words) v (r .chk .words) (record { enc = r .enc .rounds; chk = r .chk .rounds }) pv k (r .progress) given h b
-
-  pub turned-by : (x : Ran)
-      → x ≡ ranOf (ran (lentKeys t t' (r .enc .words) v (r .chk .words) (record { enc = r .enc .rounds; chk = r .chk .rounds })) (r .progress) (cut k given))
-      → _≡_ {A = Turn} (record { reader = record { enc = r .enc; chk = r .chk; progress = x .progress }; accepted = x .accepted; bytes = x .bytes; stop = x .stop })
-      (turned r (ran (keysOf r) (r .progress) (cut k given)))
-  unfolding reading
-  turned-by x ex = rw ex (ap (turned r) reading-is)
-
-  pub handed-by : (out o : List ℕ)
-      → o ≡ over (ran (lentKeys t t' (r .enc .words) v (r .chk .words) (record { enc = r .enc .rounds; chk = r .chk .rounds })) (r .progress) (cut k given) .out) out
-      → o ≡ over (ran (keysOf r) (r .progress) (cut k given) .out) out
-  unfolding reading
-  handed-by out o eo = eo ∙ ap (λ (x : Reading). over (x .out) out) reading-is
 
 -- ---- both keys
 
@@ -133,25 +114,34 @@ module _ (ekey ckey : List ℕ) (e c : Expanded) (enc-is : e ≡ scheduleOf sBox
         go true ek false m l el o eo f = let y : _≡_ {A = ℕ} 0 1 = cc in absurd (omega arith)
         go false ek n m l el o eo f = let y : _≡_ {A = ℕ} 0 1 = cc in absurd (omega arith)
 
-    pub write-fits : a ≡ Written → (length payload ≤ 480) × (512 ≤ length out)
-    write-fits q = let p = passed q in (p .len, p .room)
+    pub write-fits : a ≡ Written → length payload ≤ 480
+    write-fits q = passed q .len
 
-    enc-taken : a ≡ Written → keyNumber (scheduleOf sBox ekey .answer) ≡ 0
-    enc-taken q = ap (λ (x : Expanded). keyNumber (x .answer)) (sym enc-is) ∙ eqb-true (keyNumber (e .answer)) 0 (first (eqb (keyNumber (e .answer)) 0) (eqb (keyNumber (c .answer)) 0) (passed q .keys))
+    keys-taken : a ≡ Written → (keyNumber (scheduleOf sBox ekey .answer) ≡ 0) × (keyNumber (scheduleOf sBox ckey .answer) ≡ 0)
+    keys-taken q =
+        let b = both (eqb (keyNumber (e .answer)) 0) (eqb (keyNumber (c .answer)) 0) (passed q .keys) in
+        (taken e ekey enc-is (b .0), taken c ckey chk-is (b .1))
       where
-        first : (x y : Bool) → (x && y) ≡ true → x ≡ true
-        first true y z = refl
-        first false y z = z
+        both : (x y : Bool) → (x && y) ≡ true → (x ≡ true) × (y ≡ true)
+        both true y z = (refl, z)
+        both false y z = let w : _≡_ {A = ℕ} 0 1 = cc in absurd (omega arith)
 
-    pub written-by : (release : ℕ) (t o : List ℕ) → t ≡ forwardTable → Bytes payload → a ≡ Written
-        → o ≡ over (sealed (oneTable t (e .schedule .words) (e .schedule .rounds)) (oneTable t (c .schedule .words) (c .schedule .rounds)) [] (headFor number count release (length payload)) payload) out
+        taken : (x : Expanded) (key : List ℕ) → x ≡ scheduleOf sBox key → eqb (keyNumber (x .answer)) 0 ≡ true → keyNumber (scheduleOf sBox key .answer) ≡ 0
+        taken x key ex ez = ap (λ (y : Expanded). keyNumber (y .answer)) (sym ex) ∙ eqb-true (keyNumber (x .answer)) 0 ez
+
+    pub written-by : (release : ℕ) (o : List ℕ) → Bytes payload → a ≡ Written
+        → o ≡ sealedUnder (e .schedule .words) (c .schedule .words) (record { enc = e .schedule .rounds; chk = c .schedule .rounds }) (headFor one number count release (length payload)) payload out
         → o ≡ writeOutput a ekey ckey number count release payload out
-    written-by release t o pt bp q po =
-        let h = headFor number count release (length payload) in
+    unfolding sealedOver
+    written-by release o bp q po =
+        let f = passed q in
+        let h = headFor one number count release (length payload) in
         let x = scheduleOf sBox ekey .schedule in
         let y = scheduleOf sBox ckey .schedule in
-        po ∙ rw (q, enc-is, chk-is)
-        (ap (λ (b : List ℕ). over b out) (sealed-same t inverseTable pt refl (x .words) (y .words) (x .rounds) (y .rounds) (key-lawful ekey (enc-taken q)) h payload (passed q .len) bp))
+        let none : Bytes [] = λ k. omega arith in
+        po ∙ rw (le-leb (length payload) 480 (f .len), le-leb 512 (length out) (f .room), q, enc-is, chk-is)
+        (ap (λ (b : List ℕ). over b out)
+        (sealed-same forwardTable inverseTable refl refl (x .words) (y .words) (x .rounds) (y .rounds) _ _ refl refl (key-lawful ekey (keys-taken q .0)) (key-lawful ckey (keys-taken q .1)) [] none h payload (f .len) bp))
 
 -- an answer that is not the first case leaves the output as it was
 pub write-kept : (a : WriteAnswer) (ekey ckey : List ℕ) (number count release : ℕ) (payload out : List ℕ) → OneOf (1 ∷ 2 ∷ 3 ∷ 4 ∷ 5 ∷ []) (tagOf the-type a)

@@ -6,17 +6,20 @@ use lib.Dec.{eqb, ltb, leb}
 use lib.ListN.{length, replicate}
 use Rattle.octets.specs.Octets.{choose, over}
 use Rattle.sbox.specs.Sbox.{sBox}
-use Rattle.schedule.specs.Schedule.{scheduleOf, keyNumber, roundCount}
+use Rattle.schedule.specs.Schedule.{scheduleOf, keyNumber}
 use Rattle.schedule.specs.declared.Expanded.{Expanded}
 use Rattle.schedule.specs.declared.KeySchedule.{KeySchedule}
 use Rattle.schedule.specs.declared.KeyAnswer.{KeyAnswer}
 use Rattle.schedule.specs.declared.KeyAnswer.the-variants.{Taken, KeyLength}
 use Rattle.fips197.specs.Cipher.{aesOf, standard}
+use Rattle.sp800_38b.specs.Cmac.{cmac}
+use Rattle.format.specs.Lent.{usable}
+use Rattle.format.specs.declared.Rounds.{Rounds}
 use Rattle.header.specs.Layout.{bodySize, blockSize}
 use Rattle.header.specs.Rules.{done, countFits, lengthFits, reasonNumber, reasonValue}
-use Rattle.header.specs.declared.Head.{Head}
-use Rattle.image.specs.Sealed.{sealed}
-use Rattle.image.specs.Judge.{Keys, fresh}
+use Rattle.format.specs.Edition.{one, noCheck}
+use Rattle.format.specs.Sealed.{blockFor}
+use Rattle.format.specs.Judge.{Keys, begun, standing, BlockReader, ofEdition}
 use Rattle.image.specs.Turn.{Reading, ran, cut}
 use Rattle.image.specs.declared.WriteAnswer.{WriteAnswer}
 use Rattle.image.specs.declared.WriteAnswer.the-variants.{Written, WriteKey, WriteCount, WriteNumber, WriteLength, WriteRoom}
@@ -34,7 +37,7 @@ bothTaken ekey ckey = eqb (keyNumber (ekey .answer)) 0 && eqb (keyNumber (ckey .
 
 -- ---- the writer
 
--- document 01's number for each answer
+-- the number of each answer (docs/REFUSALS.md)
 abbrev pub writeNumber : WriteAnswer → ℕ
 writeNumber Written = 0
 writeNumber WriteKey = 1
@@ -56,13 +59,10 @@ unfoldable pub writeAnswer : (ekey ckey : List ℕ) (number count : ℕ) (payloa
 writeAnswer ekey ckey number count payload out =
     writeRuled (bothTaken (scheduleOf sBox ekey) (scheduleOf sBox ckey)) number count (length payload) (length out)
 
-abbrev pub headFor : (number count release len : ℕ) → Head
-headFor number count release len = record { number = number; count = count; release = release; len = len; reserved = 0 }
-
--- the output afterwards: the sealed block, and the rest as it was; after a refusal, as it was
+-- the output afterwards: the block, sealed in edition 1, and the rest as it was; after a refusal, as it was
 abbrev pub writeOutput : WriteAnswer → (ekey ckey : List ℕ) (number count release : ℕ) (payload out : List ℕ) → List ℕ
 writeOutput Written ekey ckey number count release payload out =
-    over (sealed (aesOf ekey) (aesOf ckey) [] (headFor number count release (length payload)) payload) out
+    over (blockFor one (aesOf ekey) (aesOf ckey) noCheck number count release payload) out
 writeOutput WriteKey ekey ckey number count release payload out = out
 writeOutput WriteCount ekey ckey number count release payload out = out
 writeOutput WriteNumber ekey ckey number count release payload out = out
@@ -75,7 +75,7 @@ abbrev pub noSchedule : KeySchedule
 noSchedule = record { words = replicate 60 0; rounds = 0 }
 
 abbrev pub startWith : KeyAnswer → (enc chk : KeySchedule) → ReadStarted
-startWith answer enc chk = record { answer = answer; reader = record { enc = enc; chk = chk; progress = fresh } }
+startWith answer enc chk = record { answer = answer; reader = record { enc = enc; chk = chk; progress = begun } }
 
 -- zeros where a key was refused
 abbrev pub startedBy : (ekey ckey : Expanded) → ReadStarted
@@ -88,12 +88,15 @@ startOf ekey ckey = startedBy (scheduleOf sBox ekey) (scheduleOf sBox ckey)
 -- ---- a turn
 
 -- AES under the two schedules; they are usable where keys can have given them
+abbrev pub keysUnder : (ewords cwords : List ℕ) → Rounds → Keys
+keysUnder ewords cwords n = record { enc = standard ewords (n .enc); mac = cmac (standard cwords (n .chk)); usable = usable n }
+
 abbrev pub keysOf : Reader → Keys
-keysOf r = record {
-  enc = standard (r .enc .words) (r .enc .rounds);
-  chk = standard (r .chk .words) (r .chk .rounds);
-  usable = roundCount (r .enc .rounds) && roundCount (r .chk .rounds);
-}
+keysOf r = keysUnder (r .enc .words) (r .chk .words) (record { enc = r .enc .rounds; chk = r .chk .rounds })
+
+-- it reads edition 1
+abbrev pub blocksBy : Reader → BlockReader
+blocksBy r = ofEdition (keysOf r) one
 
 -- k: the smaller of the blocks lent and the number asked for
 abbrev pub handled : (lent : List ℕ) (asked : ℕ) → ℕ
@@ -105,14 +108,14 @@ whole r why = record { reader = r; accepted = 0; bytes = 0; stop = why }
 
 abbrev pub turned : Reader → Reading → Turn
 turned r t = record {
-  reader = record { enc = r .enc; chk = r .chk; progress = t .progress };
+  reader = record { enc = r .enc; chk = r .chk; progress = t .standing .progress };
   accepted = t .accepted;
   bytes = t .bytes;
   stop = t .stop;
 }
 
 abbrev pub readingOf : Reader → (lent : List ℕ) (asked : ℕ) → Reading
-readingOf r lent asked = ran (keysOf r) (r .progress) (cut (handled lent asked) lent)
+readingOf r lent asked = ran (blocksBy r) (standing (r .progress)) (cut (handled lent asked) lent)
 
 -- the answer and the output: 5, 6, 4, in that order, and then the blocks
 unfoldable pub turnOf : Reader → (lent : List ℕ) (asked : ℕ) (out : List ℕ) → Turn × List ℕ
@@ -122,7 +125,7 @@ turnOf r lent asked out =
     (choose (ltb (length out) (handled lent asked * bodySize)) (whole r Room, out)
     (turned r (readingOf r lent asked), over (readingOf r lent asked .out) out)))
 
--- document 01's number for each way to stop, and what a stop at a block names: its place, and the value its reason holds
+-- the number of each way to stop (docs/REFUSALS.md), and what a stop at a block names: its place, and the value its reason holds
 abbrev pub stopNumber : Stop → ℕ
 stopNumber End = 0
 stopNumber Asked = 5

@@ -1,20 +1,18 @@
--- A turn over blocks, until the first that is refused (document 01, 'Image blocks'). Assumes nothing: these are definitions.
+-- A turn over blocks, until the first that is refused (docs/IMAGE.md). Assumes nothing: these are definitions.
 use Prim.Native.Nat.{ℕ, zero, suc, _+_}
 use mathlib.Core.List.{List, [], _∷_, _++_}
 use lib.ListN.{take, drop}
 use Rattle.header.specs.Layout.{blockSize, headOf}
-use Rattle.header.specs.declared.Progress.{Progress}
 use Rattle.header.specs.declared.Verdict.{Verdict}
 use Rattle.header.specs.declared.Verdict.the-variants.{Accepted, Refused}
-use Rattle.image.specs.Sealed.{opened}
-use Rattle.image.specs.Judge.{Keys, judge, taken}
+use Rattle.format.specs.Judge.{Standing, BlockReader, taken}
 use Rattle.image.specs.declared.Stop.{Stop}
 use Rattle.image.specs.declared.Stop.the-variants.{End, Asked, Lent, Room, At}
 
--- how far the blocks were taken: the progress after them, how many were accepted, the sum of their payload lengths,
+-- how far the blocks were taken: where the reader stands after them, how many were accepted, the sum of their payload lengths,
 -- how it stopped, and the bytes handed out
 pub record Reading : Type 0 where
-  pub progress : Progress
+  pub standing : Standing
   pub accepted : ℕ
   pub bytes : ℕ
   pub stop : Stop
@@ -29,19 +27,19 @@ later Lent = Lent
 later Room = Room
 
 -- an accepted block comes before what was read after it; a refused one ends the turn and changes nothing
-abbrev pub onward : Verdict → Progress → (len : ℕ) (plain : List ℕ) → Reading → Reading
+abbrev pub onward : Verdict → Standing → (len : ℕ) (plain : List ℕ) → Reading → Reading
 onward Accepted s len plain t = record {
-  progress = t .progress;
+  standing = t .standing;
   accepted = suc (t .accepted);
   bytes = len + t .bytes;
   stop = later (t .stop);
   out = plain ++ t .out;
 }
-onward (Refused reason) s len plain t = record { progress = s; accepted = 0; bytes = 0; stop = At 0 reason; out = [] }
+onward (Refused reason) s len plain t = record { standing = s; accepted = 0; bytes = 0; stop = At 0 reason; out = [] }
 
-unfoldable pub ran : Keys → Progress → List (List ℕ) → Reading
-ran k s [] = record { progress = s; accepted = 0; bytes = 0; stop = End; out = [] }
-ran k s (b ∷ bs) = onward (judge k s b) s (headOf b .len) (opened (k .enc) b) (ran k (taken s (headOf b)) bs)
+unfoldable pub ran : BlockReader → Standing → List (List ℕ) → Reading
+ran d s [] = record { standing = s; accepted = 0; bytes = 0; stop = End; out = [] }
+ran d s (b ∷ bs) = onward (d .verdict s b) s (headOf b .len) (d .plain b) (ran d (taken s b) bs)
 
 -- the first n blocks of what was lent
 unfoldable pub cut : ℕ → List ℕ → List (List ℕ)

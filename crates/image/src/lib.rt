@@ -1,11 +1,10 @@
 // Release images: a writer of blocks, and a reader that takes them in turns.
-mod body;
-mod fill;
 mod turns;
 
-use crate::body::seal;
+use crate::turns::Ran;
 use crate::turns::run;
 use cipher::inverse_words;
+use format::Rounds;
 use header::Head;
 use header::Progress;
 use header::Reason;
@@ -13,6 +12,7 @@ use header::count_fits;
 use header::length_fits;
 use schedule::KeyAnswer;
 use schedule::KeySchedule;
+use seal::seal;
 use tables::forward_table;
 use tables::inverse_table;
 ghost use mathlib.Core.Path.{_≡_};
@@ -21,9 +21,11 @@ ghost use Prim.Native.Nat.{_*_, _≤_, min};
 ghost use lib.Dec.{eqb, ltb, leb};
 ghost use lib.ListN.{length};
 ghost use Rattle.schedule.specs.Schedule.{keyNumber};
-ghost use Rattle.lookups.specs.Tables.{inverseWords};
 ghost use Rattle.octets.specs.Octets.{over};
+ghost use Rattle.format.specs.Edition.{one};
+ghost use Rattle.format.specs.Judge.{standing, ofEdition};
 ghost use Rattle.image.specs.Turn.{ran, cut};
+ghost use Rattle.image.specs.Lent.{sealedUnder, ranOf};
 ghost use Rattle.image.specs.Calls as spec;
 
 pub enum WriteAnswer {
@@ -110,12 +112,6 @@ impl Completion {
     }
 }
 
-// The rounds of the two schedules, where their words are lent.
-pub struct Rounds {
-    pub enc: usize,
-    pub chk: usize,
-}
-
 // Seals a payload into the first 512 bytes of the output, as one block of an image.
 // A refused call leaves the output as it was, and so do bytes of it past the block.
 pub fn write(
@@ -139,23 +135,26 @@ pub fn write(
     let WriteAnswer::Written = answer else {
         return answer;
     };
-    let forth = forward_table();
-    let enc = made_e.schedule;
-    let chk = made_c.schedule;
-    let ewords = enc.words;
-    let cwords = chk.words;
     let rounds = Rounds {
-        enc: enc.rounds,
-        chk: chk.rounds,
+        enc: made_e.schedule.rounds,
+        chk: made_c.schedule.rounds,
     };
+    let len = payload.len() as u16;
     let head = Head {
         number,
         count,
         release,
-        len: payload.len() as u16,
+        len,
         reserved: 0,
     };
-    seal(&forth, &ewords, &cwords, rounds, head, payload, output);
+    seal_under(
+        &made_e.schedule.words,
+        &made_c.schedule.words,
+        rounds,
+        head,
+        payload,
+        output,
+    );
     answer
 }
 
@@ -194,7 +193,29 @@ pub fn read_turn(reader: Reader, blocks: &[u8], asked: usize, output: &mut [u8])
     if output.len() < k * 480 {
         return stopped(reader, Stop::Room);
     }
-    turned(reader, blocks, k, output)
+    let enc = reader.enc;
+    let chk = reader.chk;
+    let rounds = Rounds {
+        enc: enc.rounds,
+        chk: chk.rounds,
+    };
+    let done = turned(
+        &enc.words,
+        &chk.words,
+        rounds,
+        reader.progress,
+        blocks,
+        k,
+        output,
+    );
+    let progress = done.progress;
+    let stop = done.stop;
+    Turn {
+        reader: Reader { enc, chk, progress },
+        accepted: done.accepted,
+        bytes: done.bytes,
+        stop,
+    }
 }
 
 // Whether the last block has been accepted.
@@ -239,6 +260,34 @@ fn judge_write(keys: bool, number: u32, count: u32, len: usize, room: usize) -> 
         return WriteAnswer::WriteRoom;
     }
     WriteAnswer::Written
+}
+
+// Seals a block of edition 1 under two schedules.
+fn seal_under(
+    ewords: &[u32; 60],
+    cwords: &[u32; 60],
+    rounds: Rounds,
+    head: Head,
+    payload: &[u8],
+    output: &mut [u8],
+)
+    ensures { λ _. ⌜ now (output .exit) ≡ sealedUnder (now (ewords .entry)) (now (cwords .entry)) rounds head (now (payload .entry)) (now (output .entry)) ⌝ }
+{
+    let forth = forward_table();
+    let key1 = subkeys::key1(&forth, cwords, rounds.chk);
+    let key2 = subkeys::key2(key1);
+    seal(
+        &forth,
+        ewords,
+        cwords,
+        &key1,
+        &key2,
+        rounds,
+        b"",
+        head,
+        payload,
+        output,
+    );
 }
 
 fn started(answer: KeyAnswer, enc: KeySchedule, chk: KeySchedule) -> ReadStarted
@@ -286,49 +335,38 @@ fn stopped(reader: Reader, why: Stop) -> Turn
     }
 }
 
-// A turn over k blocks that has passed its own tests: the tables are laid out once, and the schedules lent.
-fn turned(reader: Reader, blocks: &[u8], k: usize, output: &mut [u8]) -> Turn
+// The blocks of a turn that has passed its own tests: tables and subkeys are made once, and lent.
+fn turned(
+    ewords: &[u32; 60],
+    cwords: &[u32; 60],
+    rounds: Rounds,
+    progress: Progress,
+    blocks: &[u8],
+    k: usize,
+    output: &mut [u8],
+) -> Ran
     requires { ⌜ (k * 512 ≤ length (now blocks)) × (k * 480 ≤ length (now output)) × (k ≤ 128) ⌝ }
-    ensures answer { λ r. ⌜ r ≡ spec.turned reader (ran (spec.keysOf reader) (reader .progress) (cut k (now (blocks .entry)))) ⌝ }
-    ensures handed { λ _. ⌜ now (output .exit) ≡ over (ran (spec.keysOf reader) (reader .progress) (cut k (now (blocks .entry))) .out) (now (output .entry)) ⌝ }
+    ensures answer { λ r. ⌜ r ≡ ranOf (ran (ofEdition (spec.keysUnder (now (ewords .entry)) (now (cwords .entry)) rounds) one) (standing progress) (cut k (now (blocks .entry)))) ⌝ }
+    ensures handed { λ _. ⌜ now (output .exit) ≡ over (ran (ofEdition (spec.keysUnder (now (ewords .entry)) (now (cwords .entry)) rounds) one) (standing progress) (cut k (now (blocks .entry))) .out) (now (output .entry)) ⌝ }
 {
-    let enc = reader.enc;
-    let chk = reader.chk;
-    let dwords = words_back(enc);
+    let mut dwords = [0u32; 60];
+    inverse_words(ewords, rounds.enc, &mut dwords);
     let forth = forward_table();
     let back = inverse_table();
-    let ewords = enc.words;
-    let cwords = chk.words;
-    let rounds = Rounds {
-        enc: enc.rounds,
-        chk: chk.rounds,
-    };
-    let done = run(
+    let key1 = subkeys::key1(&forth, cwords, rounds.chk);
+    let key2 = subkeys::key2(key1);
+    run(
         &forth,
         &back,
-        &ewords,
+        ewords,
         &dwords,
-        &cwords,
+        cwords,
+        &key1,
+        &key2,
         rounds,
-        reader.progress,
+        progress,
         blocks,
         k,
         output,
-    );
-    let progress = done.progress;
-    let stop = done.stop;
-    Turn {
-        reader: Reader { enc, chk, progress },
-        accepted: done.accepted,
-        bytes: done.bytes,
-        stop,
-    }
-}
-
-// The schedule for the way back. What it takes to make it is given up before the tables are laid out.
-fn words_back(schedule: KeySchedule) -> [u32; 60]
-    ensures { λ r. ⌜ r ≡ inverseWords (schedule .words) (schedule .rounds) ⌝ }
-{
-    let words = schedule.words;
-    inverse_words(&words, schedule.rounds)
+    )
 }

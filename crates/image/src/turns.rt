@@ -1,32 +1,20 @@
 // The reader's way through the blocks of a turn.
-use crate::Rounds;
 use crate::Stop;
-use crate::body::check_holds;
-use crate::body::open_into;
-use crate::fill::fill_is_zero;
-use blocks::load;
+use format::Rounds;
 use header::Head;
 use header::Progress;
-use header::Reason;
 use header::Verdict;
-use header::head_of;
-use header::judge_head;
+use seal::judge;
+use seal::open_block;
 ghost use mathlib.Core.Path.{_≡_};
-ghost use Prim.Native.Nat.{_+_, _*_, _≤_, _<_};
+ghost use Prim.Native.Nat.{_*_, _≤_};
 ghost use lib.ListN.{length};
-ghost use Rattle.header.specs.declared.Verdict.the-variants.{Accepted};
 ghost use Rattle.octets.specs.Octets.{over};
-ghost use Rattle.image.specs.Sealed as sealed;
-ghost use Rattle.image.specs.Judge.{judge, taken};
+ghost use Rattle.format.specs.Edition.{one};
+ghost use Rattle.format.specs.Judge.{standing, ofEdition};
+ghost use Rattle.format.specs.Lent.{lentKeys};
 ghost use Rattle.image.specs.Turn as spec;
-ghost use Rattle.image.specs.Lent.{lentBoth, lentKeys, outAfter, tookAfter, ranOf};
-
-// What a block did: the verdict, the progress after it, and the length of its payload, 0 where it was refused.
-pub struct Took {
-    pub verdict: Verdict,
-    pub progress: Progress,
-    pub len: u16,
-}
+ghost use Rattle.image.specs.Lent.{following, ranWith, ranOf};
 
 // What a turn's blocks did.
 pub struct Ran {
@@ -36,107 +24,38 @@ pub struct Ran {
     pub stop: Stop,
 }
 
-// Judges a block, and decrypts it into the output once it is accepted: of a refused block nothing gets there.
-fn read_block(
-    forth: &[u32; 256],
-    back: &[u32; 256],
-    ewords: &[u32; 60],
-    dwords: &[u32; 60],
-    cwords: &[u32; 60],
-    rounds: Rounds,
-    progress: Progress,
-    block: &[u8],
-    output: &mut [u8],
-    at: usize,
-) -> Verdict
-    requires { ⌜ (length (now block) ≡ 512) × (at + 480 ≤ length (now output)) ⌝ }
-    ensures judged { λ r. ⌜ r ≡ judge (lentKeys (now (forth .entry)) (now (back .entry)) (now (ewords .entry)) (now (dwords .entry)) (now (cwords .entry)) rounds) progress (now (block .entry)) ⌝ }
-    ensures handed { λ r. ⌜ now (output .exit) ≡ outAfter r (sealed.opened (lentBoth (now (forth .entry)) (now (back .entry)) (now (ewords .entry)) (now (dwords .entry)) (rounds .enc)) (now (block .entry))) at (now (output .entry)) ⌝ }
-    ensures sized { λ r. ⌜ (r ≡ Accepted → length (sealed.opened (lentBoth (now (forth .entry)) (now (back .entry)) (now (ewords .entry)) (now (dwords .entry)) (rounds .enc)) (now (block .entry))) ≡ 480) ⌝ }
-{
-    if header::complete(progress) {
-        return Verdict::Refused(Reason::AfterLast);
-    }
-    if !check_holds(forth, cwords, rounds, block) {
-        return Verdict::Refused(Reason::CheckWrong);
-    }
-    let head = head_of(load(block, 0));
-    let verdict = judge_head(progress, head);
-    let Verdict::Accepted = verdict else {
-        return verdict;
-    };
-    let len = head.len as usize;
-    if !fill_is_zero(forth, back, ewords, dwords, rounds.enc, block, len) {
-        return Verdict::Refused(Reason::FillNotZero);
-    }
-    open_into(forth, back, ewords, dwords, rounds.enc, block, output, at);
-    Verdict::Accepted
-}
-
+// The progress after a block with this header, were it accepted.
 fn advanced(progress: Progress, head: Head) -> Progress
-    requires { ⌜ progress .next < 65535 ⌝ }
-    ensures { λ r. ⌜ r ≡ taken progress head ⌝ }
+    ensures { λ r. ⌜ r ≡ following progress head ⌝ }
 {
     Progress {
-        next: progress.next + 1,
+        next: ((progress.next as u64 + 1) % 4294967296) as u32,
         fixed: true,
         count: head.count,
         release: head.release,
     }
 }
 
-// Takes a block that is accepted into account.
-fn take_block(
-    forth: &[u32; 256],
-    back: &[u32; 256],
-    ewords: &[u32; 60],
-    dwords: &[u32; 60],
-    cwords: &[u32; 60],
-    rounds: Rounds,
-    progress: Progress,
-    block: &[u8],
-    output: &mut [u8],
-    at: usize,
-) -> Took
-    requires { ⌜ (length (now block) ≡ 512) × (at + 480 ≤ length (now output)) ⌝ }
-    ensures took { λ r. ⌜ r ≡ tookAfter (judge (lentKeys (now (forth .entry)) (now (back .entry)) (now (ewords .entry)) (now (dwords .entry)) (now (cwords .entry)) rounds) progress (now (block .entry))) progress (now (block .entry)) ⌝ }
-    ensures handed { λ r. ⌜ now (output .exit) ≡ outAfter (r .verdict) (sealed.opened (lentBoth (now (forth .entry)) (now (back .entry)) (now (ewords .entry)) (now (dwords .entry)) (rounds .enc)) (now (block .entry))) at (now (output .entry)) ⌝ }
-    ensures sized { λ r. ⌜ (r .verdict ≡ Accepted → length (sealed.opened (lentBoth (now (forth .entry)) (now (back .entry)) (now (ewords .entry)) (now (dwords .entry)) (rounds .enc)) (now (block .entry))) ≡ 480) ⌝ }
+fn told(progress: Progress, accepted: usize, bytes: usize, stop: Stop) -> Ran
+    ensures { λ r. ⌜ r ≡ ranWith progress accepted bytes stop ⌝ }
 {
-    let verdict = read_block(
-        forth,
-        back,
-        ewords,
-        dwords,
-        cwords,
-        rounds,
+    Ran {
         progress,
-        block,
-        output,
-        at,
-    );
-    let Verdict::Accepted = verdict else {
-        return Took {
-            verdict,
-            progress,
-            len: 0,
-        };
-    };
-    let head = head_of(load(block, 0));
-    Took {
-        verdict,
-        progress: advanced(progress, head),
-        len: head.len,
+        accepted,
+        bytes,
+        stop,
     }
 }
 
-// At most k blocks, up to the first that is refused.
+// At most k blocks, up to the first that is refused. An accepted block is opened into its part of the output, and no other is.
 pub fn run(
     forth: &[u32; 256],
     back: &[u32; 256],
     ewords: &[u32; 60],
     dwords: &[u32; 60],
     cwords: &[u32; 60],
+    key1: &[u8; 16],
+    key2: &[u8; 16],
     rounds: Rounds,
     progress: Progress,
     blocks: &[u8],
@@ -144,48 +63,39 @@ pub fn run(
     output: &mut [u8],
 ) -> Ran
     requires { ⌜ (k * 512 ≤ length (now blocks)) × (k * 480 ≤ length (now output)) × (k ≤ 128) ⌝ }
-    ensures answer { λ r. ⌜ r ≡ ranOf (spec.ran (lentKeys (now (forth .entry)) (now (back .entry)) (now (ewords .entry)) (now (dwords .entry)) (now (cwords .entry)) rounds) progress (spec.cut k (now (blocks .entry)))) ⌝ }
-    ensures handed { λ _. ⌜ now (output .exit) ≡ over (spec.ran (lentKeys (now (forth .entry)) (now (back .entry)) (now (ewords .entry)) (now (dwords .entry)) (now (cwords .entry)) rounds) progress (spec.cut k (now (blocks .entry))) .out) (now (output .entry)) ⌝ }
+    ensures answer { λ r. ⌜ r ≡ ranOf (spec.ran (ofEdition (lentKeys (now (forth .entry)) (now (back .entry)) (now (ewords .entry)) (now (dwords .entry)) (now (cwords .entry)) (now (key1 .entry)) (now (key2 .entry)) rounds) one) (standing progress) (spec.cut k (now (blocks .entry)))) ⌝ }
+    ensures handed { λ _. ⌜ now (output .exit) ≡ over (spec.ran (ofEdition (lentKeys (now (forth .entry)) (now (back .entry)) (now (ewords .entry)) (now (dwords .entry)) (now (cwords .entry)) (now (key1 .entry)) (now (key2 .entry)) rounds) one) (standing progress) (spec.cut k (now (blocks .entry))) .out) (now (output .entry)) ⌝ }
 {
     let mut state = progress;
     let mut bytes: usize = 0;
     let mut j: usize = 0;
     while j < k {
         let at = j * 512;
-        let took = take_block(
+        let to = j * 480;
+        let block = &blocks[at..at + 512];
+        let judged = judge(
             forth,
             back,
             ewords,
             dwords,
             cwords,
+            key1,
+            key2,
             rounds,
             state,
-            &blocks[at..at + 512],
-            output,
-            j * 480,
+            block,
         );
-        let verdict = took.verdict;
-        match verdict {
-            Verdict::Refused(reason) => {
-                return Ran {
-                    progress: state,
-                    accepted: j,
-                    bytes,
-                    stop: Stop::At(j, reason),
-                };
-            }
-            Verdict::Accepted => {
-                let next = took.progress;
-                state = next;
-                bytes += took.len as usize;
-            }
+        let verdict = judged.verdict;
+        let head = judged.head;
+        let next = advanced(state, head);
+        if let Verdict::Refused(reason) = verdict {
+            return told(state, j, bytes, Stop::At(j, reason));
         }
+        let part = &mut output[to..to + 480];
+        open_block(forth, back, ewords, dwords, rounds.enc, block, part);
+        state = next;
+        bytes += head.len as usize;
         j += 1;
     }
-    Ran {
-        progress: state,
-        accepted: j,
-        bytes,
-        stop: Stop::End,
-    }
+    told(state, j, bytes, Stop::End)
 }

@@ -81,7 +81,8 @@ fn under(
 {
     if inverts(operation) {
         let table = inverse_table();
-        let inverse = inverse_words(words, rounds);
+        let mut inverse = [0u32; 60];
+        inverse_words(words, rounds, &mut inverse);
         return pieces::run(&table, &inverse, rounds, operation, iv, input, output);
     }
     let table = forward_table();

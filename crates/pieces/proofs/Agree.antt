@@ -4,14 +4,14 @@ use mathlib.Core.Bool.{true, false, true≢false}
 use mathlib.Core.List.{List, [], _++_, append-nil}
 use mathlib.Core.Logic.{⊎-elim}
 use Prim.Native.Nat.{ℕ, zero, suc, _+_, _*_, _/_, _%_, _≤_, _<_}
+use native.Mathlib.Nat.{zero-lt-suc}
 use native.Mathlib.Omega.{arith}
 use borrow.Author.Tests.{lt-ltb, le-ltb}
 use lib.ListN.{length, take, drop, drop-of-length-le}
 use lib.Seq.{take-all}
-use Rattle.octets.specs.Octets.{Bytes, Octets, over}
-use Rattle.octets.specs.Blocks.{_⊕_, BlockCipher, Lawful}
+use Rattle.octets.specs.Octets.{Bytes, over}
+use Rattle.octets.specs.Blocks.{BlockCipher, Lawful}
 use Rattle.octets.proofs.Xor.{lt-or-le}
-use Rattle.octets.proofs.Blocks.{⊕-octets}
 use Rattle.blocks.specs.Blocks.{blockAt}
 use Rattle.blocks.proofs.Laws.{block-at, block-octets}
 use Rattle.lookups.specs.Tables.{tableCipher, oneTable}
@@ -20,31 +20,10 @@ use Rattle.sp800_38a.specs.Pieces.{made, after, pieceCount}
 use Rattle.sp800_38a.specs.Modes.{machine, inverts, ivLength, moded}
 use Rattle.sp800_38a.specs.declared.Operation.{Operation}
 use Rattle.sp800_38a.specs.declared.Operation.the-variants.{EcbEncrypt, EcbDecrypt, CbcEncrypt, CbcDecrypt, CfbEncrypt, CfbDecrypt, OfbEncrypt, OfbDecrypt}
-use Rattle.sp800_38a.proofs.Pieces.{made-same, after-same}
-use Rattle.sp800_38a.proofs.Undo.{ChainOf, keeps}
-use Rattle.sp800_38a.proofs.Sixteen.{whole-16, length-16}
+use Rattle.sp800_38a.proofs.Undo.{ChainOf}
+use Rattle.sp800_38a.proofs.Sixteen.{by-sixteen, length-16}
+use Rattle.sp800_38a.proofs.Same.{moded-same, handed-same}
 use Rattle.pieces.specs.Runs.{common, through}
-
-module _ (c d : BlockCipher) (a : Agree c d) where
-  out-same : (o : Operation) (st p : List ℕ) → ChainOf 16 o st → Octets 16 p → machine c o .out st p ≡ machine d o .out st p
-  out-same EcbEncrypt st p g h = a .enc-same p h
-  out-same EcbDecrypt st p g h = a .dec-same p h
-  out-same CbcEncrypt st p g h = a .enc-same (p ⊕ st) (⊕-octets h g)
-  out-same CbcDecrypt st p g h = ap (_⊕ st) (a .dec-same p h)
-  out-same CfbEncrypt st p g h = ap (p ⊕_) (a .enc-same st g)
-  out-same CfbDecrypt st p g h = ap (p ⊕_) (a .enc-same st g)
-  out-same OfbEncrypt st p g h = ap (p ⊕_) (a .enc-same st g)
-  out-same OfbDecrypt st p g h = ap (p ⊕_) (a .enc-same st g)
-
-  next-same : (o : Operation) (st p : List ℕ) → ChainOf 16 o st → Octets 16 p → machine c o .next st p ≡ machine d o .next st p
-  next-same EcbEncrypt st p g h = refl
-  next-same EcbDecrypt st p g h = refl
-  next-same CbcEncrypt st p g h = a .enc-same (p ⊕ st) (⊕-octets h g)
-  next-same CbcDecrypt st p g h = refl
-  next-same CfbEncrypt st p g h = ap (p ⊕_) (a .enc-same st g)
-  next-same CfbDecrypt st p g h = refl
-  next-same OfbEncrypt st p g h = a .enc-same st g
-  next-same OfbDecrypt st p g h = a .enc-same st g
 
 -- an operation uses the cipher one way only, so the table and the schedule of that way serve
 forward-only : (t b w v : List ℕ) (nr : ℕ) (o : Operation) → inverts o ≡ false → machine (oneTable t w nr) o ≡ machine (tableCipher t b w v nr) o
@@ -150,17 +129,6 @@ through-whole c o iv inp out h e =
     rw (k, z, append-nil (made 16 (machine c o) iv n inp))
 
 module _ (c d : BlockCipher) (a : Agree c d) (l : Lawful 16 d) (o : Operation) (st inp : List ℕ) (g : ChainOf 16 o st) (b : Bytes inp) (h : length inp % 16 ≡ 0) where
-  -- the operation over either cipher
-  pub moded-same : moded 16 c o st inp ≡ moded 16 d o st inp
-  moded-same =
-      made-same 16 (machine d o) (ChainOf 16 o) (Octets 16) (keeps 16 d l o) (machine c o) (out-same c d a o) (next-same c d a o) (pieceCount 16 inp) st inp g
-      (whole-16 d l o st inp g b h)
-
-  handed-same : after 16 (machine c o) st (pieceCount 16 inp) inp ≡ after 16 (machine d o) st (pieceCount 16 inp) inp
-  handed-same =
-      after-same 16 (machine d o) (ChainOf 16 o) (Octets 16) (keeps 16 d l o) (machine c o) (next-same c d a o) (pieceCount 16 inp) st inp g
-      (whole-16 d l o st inp g b h)
-
   -- a run over one cipher is the operation over the other, over the front of the output
   pub through-mode : (out : List ℕ) → length inp ≤ length out
       → through c o st inp out ≡ (after 16 (machine d o) st (pieceCount 16 inp) inp, over (moded 16 d o st inp) out)
@@ -168,4 +136,6 @@ module _ (c d : BlockCipher) (a : Agree c d) (l : Lawful 16 d) (o : Operation) (
   through-mode out r =
       let n = (length inp + 15) / 16 in
       let k : n * 16 ≡ length inp = omega arith in
-      rw (common-all (length inp) (length out) h r, handed-same, moded-same, length-16 d l o st inp g b h, k)
+      let some = zero-lt-suc 15 in
+      let w = by-sixteen (length inp) h in
+      rw (common-all (length inp) (length out) h r, handed-same 16 c d (a .enc-same) (a .dec-same) l o (length inp / 16) st inp some g b w, moded-same 16 c d (a .enc-same) (a .dec-same) l o (length inp / 16) st inp some g b w, length-16 d l o st inp g b h, k)

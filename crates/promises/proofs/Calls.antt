@@ -216,7 +216,7 @@ decrypt-two-determined κs a r r′ s s′ p q = p ∙ sym q
 pub inverse-words-asks-nothing : (κs : _) (a : _) → inverse-words.Asked κs a
 inverse-words-asks-nothing κs a = tt
 
-pub inverse-words-determined : (κs : _) (a : _) (r r′ : _) (s s′ : _) → inverse-words.Post κs a r s → inverse-words.Post κs a r′ s′ → r ≡ r′
+pub inverse-words-determined : (κs : _) (a : _) (r r′ : _) (s s′ : _) → inverse-words.Post κs a r s → inverse-words.Post κs a r′ s′ → now (s .1 .1 .0) ≡ now (s′ .1 .1 .0)
 inverse-words-determined κs a r r′ s s′ p q = p ∙ sym q
 
 pub load-asks-nothing : (κs : _) (a : _) → load.Asked κs a

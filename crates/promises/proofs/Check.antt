@@ -8,27 +8,28 @@ use lib.ListN.{length, replicate}
 use Rattle.octets.specs.Octets.{joined, Bytes, padTo}
 use Rattle.octets.specs.Blocks.{BlockCipher}
 use Rattle.sbox.specs.Sbox.{sBox, invSBox}
-use Rattle.schedule.specs.Schedule.{taken, refused, scheduleOf, keyNumber}
+use Rattle.schedule.specs.Schedule.{taken, refused, scheduleOf, keyNumber, roundCount}
 use Rattle.schedule.specs.declared.Expanded.{Expanded}
 use Rattle.tables.specs.Tables.{forwardTable}
 use Rattle.fips197.specs.State.{aes}
-use Rattle.schedule.specs.Schedule.{roundCount}
-use Rattle.fips197.specs.Cipher.{cipher, invCipher, encryptBlock, decryptBlock, aesOf}
+use Rattle.fips197.specs.Cipher.{cipher, invCipher, encryptBlock, decryptBlock, aesOf, standard}
 use Rattle.lookups.specs.Tables.{oneTable}
 use Rattle.fips197.proofs.Padding.{cipher-padded, inv-cipher-padded}
 use Rattle.fips197.proofs.Aes.{key-lawful}
-use Rattle.sp800_38b.specs.Cmac.{cmac, SameOutside}
+use Rattle.sp800_38b.specs.Cmac.{doubled, key1, key2, cmac, cmacBy, SameOutside}
 use Rattle.running.specs.Running.{begun}
-use Rattle.fips197.specs.Cipher.{standard}
 use Rattle.cmac.specs.Calls.{checkedBy, checkOf, startedBy, startOf, fedWith, closeOf, fedParts}
 use Rattle.cmac.specs.declared.Record.{Record}
 use Rattle.cmac.specs.declared.Checked.{Checked}
 use Rattle.cmac.specs.declared.Started.{Started}
 use Rattle.sp800_38b.proofs.OnePiece.{one-piece}
+use Rattle.sp800_38b.proofs.Same.{cmac-by}
 use Rattle.cmac.proofs.Under.{cmac-table}
 use Rattle.cmac.proofs.Parts.{running-whole, close-zeros, cmac-zeros, lent-zeros}
 use Rattle.promises.proofs.Cipher.{KeySize, NoKeySize, sized, unsized, known-rounds, expanded}
 use Rattle.subkeys.proofs.filled.Reads as filled
+use Rattle.subkeys.proofs.key1.Reads as first-subkey
+use Rattle.subkeys.proofs.key2.Reads as second-subkey
 use Rattle.subkeys.proofs.last.Reads as last
 use Rattle.cmac.proofs.check.Reads as check
 use Rattle.cmac.proofs.start.Reads as start
@@ -94,6 +95,23 @@ filled-asks-nothing κs a = tt
 
 pub filled-determined : (κs : _) (a : _) (r r′ : _) (s s′ : _) → filled.Post κs a r s → filled.Post κs a r′ s′ → r ≡ r′
 filled-determined κs a r r′ s s′ p q = p ∙ sym q
+
+pub key1-asks-nothing : (κs : _) (a : _) → first-subkey.Asked κs a
+key1-asks-nothing κs a = tt
+
+pub key1-determined : (κs : _) (a : _) (r r′ : _) (s s′ : _) → first-subkey.Post κs a r s → first-subkey.Post κs a r′ s′ → r ≡ r′
+key1-determined κs a r r′ s s′ p q = p ∙ sym q
+
+pub key2-asks-nothing : (κs : _) (a : _) → second-subkey.Asked κs a
+key2-asks-nothing κs a = tt
+
+pub key2-determined : (κs : _) (a : _) (r r′ : _) (s s′ : _) → second-subkey.Post κs a r s → second-subkey.Post κs a r′ s′ → r ≡ r′
+key2-determined κs a r r′ s s′ p q = p ∙ sym q
+
+-- the subkeys that these two calls make are those of the standard, and a check that is closed with them is CMAC
+pub subkeys-are-the-standards : (c : BlockCipher) (k1 k2 : List ℕ) → k1 ≡ key1 c → k2 ≡ doubled k1 → (m : List ℕ) → cmacBy c k1 k2 m ≡ cmac c m
+unfolding key2
+subkeys-are-the-standards c k1 k2 p q m = ap₂ (λ (x y : List ℕ). cmacBy c x y m) p (q ∙ ap doubled p) ∙ cmac-by c m
 
 pub last-asks-nothing : (κs : _) (a : _) → last.Asked κs a
 last-asks-nothing κs a = tt

@@ -1,23 +1,25 @@
 -- Demands 2 and 3 for images: what is written is read back in any turns, what is damaged is refused, and what a turn accepted, handed out
 -- and left as it was. Assumes nothing.
 use mathlib.Core.Path.{_≡_, refl, sym, ap, ap₂, _∙_, subst}
-use mathlib.Core.Bool.{Bool, true, false}
+use mathlib.Core.Bool.{Bool, true, false, _&&_}
 use mathlib.Core.List.{List, [], _∷_, _++_}
-use Prim.Native.Nat.{ℕ, _+_, _*_, _≤_, _<_}
+use Prim.Native.Nat.{ℕ, _+_, _-_, _*_, _≤_, _<_}
 use native.Mathlib.Nat.{add-zero, zero-add}
 use native.Mathlib.Omega.{arith}
+use borrow.Author.Tests.{eqb-true, eqb-false, eq-eqb}
 use lib.Dec.{eqb}
-use lib.ListN.{length, getD, take, drop, length-append, length-drop}
-use lib.Seq.{take-at, drop-at}
-use Rattle.octets.specs.Octets.{choose, Bytes, Octets, over}
+use lib.ListN.{length, getD, take, drop, length-append, length-drop, replicate}
+use lib.Seq.{take-at, drop-at, drop-drop, drop-append-add}
+use Rattle.octets.specs.Octets.{choose, Bytes, Octets, over, joined}
 use Rattle.octets.specs.Blocks.{BlockCipher, Lawful}
 use Rattle.octets.proofs.Blocks.{take-bytes, drop-bytes}
 use Rattle.schedule.specs.Schedule.{keyNumber}
+use Rattle.schedule.specs.declared.KeyAnswer.{KeyAnswer}
+use Rattle.schedule.specs.declared.KeyAnswer.the-variants.{Taken, KeyLength}
 use Rattle.fips197.specs.Cipher.{aesOf}
 use Rattle.fips197.proofs.Aes.{key-lawful}
 use Rattle.sp800_38a.specs.Pieces.{piece}
-use Rattle.sp800_38b.specs.Cmac.{SameOutside}
-use Rattle.octets.specs.Octets.{joined}
+use Rattle.sp800_38b.specs.Cmac.{cmac, SameOutside}
 use Rattle.header.specs.Layout.{headOf}
 use Rattle.header.specs.Rules.{done, reasonNumber}
 use Rattle.header.specs.declared.Head.{Head}
@@ -26,10 +28,11 @@ use Rattle.header.specs.declared.Reason.{Reason}
 use Rattle.header.specs.declared.Reason.the-variants.{AfterLast, CheckWrong, Count, Number, OtherCount, OtherRelease, NotBelow, Length, Reserved, FillNotZero}
 use Rattle.header.specs.declared.Verdict.the-variants.{Accepted, Refused}
 use Rattle.header.proofs.Laws.{Wide}
-use Rattle.image.specs.Sealed.{filled, sealed, opened, checks, fillZero}
-use Rattle.image.specs.Judge.{Keys, judge, taken}
-use Rattle.image.specs.Turn.{ran, cut}
-use Rattle.image.specs.Calls.{writeNumber, writeOutput, writeAnswer, headFor, startOf, keysOf, handled, readingOf, turnOf, stopNumber, completionOf}
+use Rattle.format.specs.Edition.{Edition, one, noCheck}
+use Rattle.format.specs.Sealed.{filled, headFor, blockFor, sealed, opened, checks, fillZero}
+use Rattle.format.specs.Judge.{Keys, Standing, standing, judge, advanced, BlockReader}
+use Rattle.image.specs.Turn.{Reading, ran, cut}
+use Rattle.image.specs.Calls.{writeNumber, writeOutput, writeAnswer, startOf, keysOf, blocksBy, handled, readingOf, turnOf, stopNumber, completionOf}
 use Rattle.image.specs.declared.WriteAnswer.{WriteAnswer}
 use Rattle.image.specs.declared.WriteAnswer.the-variants.{Written, WriteKey, WriteCount, WriteNumber, WriteLength, WriteRoom}
 use Rattle.image.specs.declared.Reader.{Reader}
@@ -37,25 +40,26 @@ use Rattle.image.specs.declared.Stop.{Stop}
 use Rattle.image.specs.declared.Stop.the-variants.{End, Asked, Lent, Room, At}
 use Rattle.image.specs.declared.Turn.{Turn}
 use Rattle.image.specs.declared.Completion.the-variants.{Complete, NotComplete}
-use Rattle.promises.proofs.ImageTerms.{Met, Says, unchecked, AllMet, Blocks, payload, plains, parts, AllFilled, KeyTaken, Fit, WriteSays, afterWrite, Wrote, blocks, image, inState, readerOf, Waits, moved, FromStart, Sound, given, StopSays, Whole, Lending, AllFair, offered, concat, lendEach, AllFew, readerAfter, AllAccepted, handedOut, counted, andThen}
+use Rattle.promises.proofs.ImageTerms.{Proper, Met, Row, Says, unchecked, AllMet, Blocks, payload, plains, parts, AllFilled, Fit, WriteSays, afterWrite, Wrote, blocks, image, inState, readerOf, Waits, moved, FromStart, Sound, given, Fair, StartSays, StopSays, CompletionSays, Whole, Lending, AllFair, offered, concat, lendEach, AllFew, readerAfter, AllAccepted, handedOut, counted, andThen}
+use Rattle.promises.proofs.Keys.{KeyTaken}
 use Rattle.promises.proofs.ImageSealed.{sealed-size, sealed-bytes, sealed-checks, sealed-opened, sealed-head, sealed-fill}
-use Rattle.promises.proofs.ImageJudge.{damaged-check, accepted-met, accepted-sealed, verdict-says, met-accepted, fits-count, no-keys}
-use Rattle.promises.proofs.ImageTurn.{out-at, ran-append, ran-state, advance, accepted-le, end-all, ends-or-at, stop-place, ran-met, first-fixes, none-accepted, no-keys-none, ran-out, ran-bytes, met-filled, parts-length}
-use Rattle.promises.proofs.ImageSound.{reached-sound, ran-never-11}
+use Rattle.promises.proofs.ImageJudge.{damaged-check, accepted-met, accepted-sealed, verdict-says, no-row-accepted, met-accepted, fits-count, no-keys}
+use Rattle.promises.proofs.ImageTurn.{out-at, ran-append, ran-state, advance, accepted-le, end-all, ends-or-at, stop-place, stops-by, ran-met, met-ends, first-fixes, none-accepted, no-keys-none, ran-out, ran-bytes, met-filled, parts-length}
+use Rattle.promises.proofs.ImageSound.{ran-never-11}
 use Rattle.promises.proofs.ImageWhole.{written-length, Passes, Left, left-fits, written-at, image-blocks, image-parts, image-passes}
-use Rattle.promises.proofs.ImageCalls.{start-keys, output-rest, fresh-start, answer-says, told-turn, keysUnder, start-fresh, start-refused, usable-lawful, fit-written, output-block, cut-length, given-blocks, by-turn, reading-length, reading-le, one-refused, one-accepted}
-use Rattle.promises.proofs.ImageRead.{blocks-split, size, head-is, opens, keys-are, accepts, refuses, turns-read, from-reached}
+use Rattle.promises.proofs.ImageCalls.{start-keys, output-rest, fresh-start, answer-says, told-turn, keysUnder, start-fresh, start-refused, start-zeros, usable-lawful, fit-written, output-block, cut-length, given-blocks, fair-turn, by-turn, reading-length, reading-le, one-accepted}
+use Rattle.promises.proofs.ImageRead.{blocks-split, size, head-is, opens, keys-are, accepts, refuses, turns-read, from-sound}
 
 -- ---- one block, over any two lawful ciphers
 
 -- what is sealed is 512 bytes, its header reads back, its check is right, and it opens to the payload and zero fill
 pub sealed-opens : (ek ck : BlockCipher) → Lawful 16 ek → Lawful 16 ck → (h : Head) (p : List ℕ) → Wide h → length p ≡ h .len → length p ≤ 480 → Bytes p
     → (tail : List ℕ) → Bytes tail
-    → Octets 512 (sealed ek ck tail h p)
-    × (headOf (sealed ek ck tail h p) ≡ h)
-    × (checks ck tail (sealed ek ck tail h p) ≡ true)
-    × (opened ek (sealed ek ck tail h p) ≡ filled p)
-    × (fillZero ek (sealed ek ck tail h p) ≡ true)
+    → Octets 512 (sealed ek (cmac ck) tail h p)
+    × (headOf (sealed ek (cmac ck) tail h p) ≡ h)
+    × (checks (cmac ck) tail (sealed ek (cmac ck) tail h p) ≡ true)
+    × (opened ek (sealed ek (cmac ck) tail h p) ≡ filled p)
+    × (fillZero ek (sealed ek (cmac ck) tail h p) ≡ true)
 sealed-opens ek ck le lc h p w e lp bp tail bt = (
   record { size = sealed-size ek ck le lc h p lp bp tail bt; bytes = sealed-bytes ek ck le lc h p lp bp tail bt },
   sealed-head ek ck le lc h p lp bp tail bt w,
@@ -66,22 +70,25 @@ sealed-opens ek ck le lc h p w e lp bp tail bt = (
 
 -- a block that is a sealed one outside one piece of 16 bytes, the check being piece 31, and is not that one, has a wrong check
 pub damage-shows : (ek ck : BlockCipher) → Lawful 16 ek → Lawful 16 ck → (tail : List ℕ) (h : Head) (p : List ℕ) → Bytes tail → length p ≤ 480 → Bytes p
-    → (i : ℕ) (d : List ℕ) → length d ≡ 512 → Bytes d → SameOutside i d (sealed ek ck tail h p) → (d ≡ sealed ek ck tail h p → ⊥) → checks ck tail d ≡ false
+    → (i : ℕ) (d : List ℕ) → length d ≡ 512 → Bytes d → SameOutside i d (sealed ek (cmac ck) tail h p) → (d ≡ sealed ek (cmac ck) tail h p → ⊥) → checks (cmac ck) tail d ≡ false
 damage-shows ek ck le lc tail h p bt lp bp i d ld bd o n = damaged-check ek ck le lc tail h p bt lp bp i d ld bd o n
 
 -- ---- demand 2: refusals come where the table says, and only there
 
--- a block is accepted where it meets every test; a reason says which it does not meet, and holds the value found
-pub verdict-as-told : (k : Keys) (s : Progress) (b : List ℕ) → Says k s b (judge k s b)
-verdict-as-told k s b = verdict-says k s b
+-- a block is accepted where it meets every test; a reason says which row of the table holds, that none asked before it does, and the value found
+pub verdict-as-told : (k : Keys) (ed : Edition) (s : Standing) (b : List ℕ) → Says k ed s b (judge k ed s b)
+verdict-as-told k ed s b = verdict-says k ed s b (judge k ed s b) refl
 
-pub met-is-accepted : (k : Keys) (s : Progress) (b : List ℕ) → Met k s b → judge k s b ≡ Accepted
-met-is-accepted k s b m = met-accepted k s b m
+pub verdict-done : (k : Keys) (ed : Edition) (s : Standing) (b : List ℕ) → ((r : Reason) → Row k ed s b r → ⊥) → judge k ed s b ≡ Accepted
+verdict-done k ed s b n = no-row-accepted k ed s b n
 
--- the writer writes where all holds that it asks; an answer says what does not
-pub write-as-told : (ekey ckey : List ℕ) (number count : ℕ) (payload out : List ℕ)
+pub met-is-accepted : (k : Keys) (ed : Edition) (s : Standing) (b : List ℕ) → Met k ed s b → judge k ed s b ≡ Accepted
+met-is-accepted k ed s b m = met-accepted k ed s b m
+
+-- the writer writes where all holds that it asks; an answer says what does not, and that all asked before it does
+pub write-answer-as-told : (ekey ckey : List ℕ) (number count : ℕ) (payload out : List ℕ)
     → WriteSays ekey ckey number count (length payload) (length out) (writeAnswer ekey ckey number count payload out)
-write-as-told ekey ckey number count payload out = answer-says ekey ckey number count payload out
+write-answer-as-told ekey ckey number count payload out = answer-says ekey ckey number count payload out
 
 pub fit-is-written : (ekey ckey : List ℕ) (number count : ℕ) (payload out : List ℕ) → Fit ekey ckey number count (length payload) (length out)
     → writeAnswer ekey ckey number count payload out ≡ Written
@@ -89,25 +96,84 @@ fit-is-written ekey ckey number count payload out f =
     fit-written ekey ckey number count payload out (f .ekey-taken) (f .ckey-taken) (fits-count count (f .count-low) (f .count-high)) (f .below) (f .len-fits) (f .roomy)
 
 -- a start takes both keys, or is refused by 1
-pub start-as-told : (ekey ckey : List ℕ) → keyNumber (startOf ekey ckey .answer) ≡ 0 → KeyTaken ekey × KeyTaken ckey
-start-as-told ekey ckey e = start-keys ekey ckey e
+pub start-says : (ekey ckey : List ℕ) → StartSays ekey ckey (startOf ekey ckey .answer)
+start-says ekey ckey = go (startOf ekey ckey .answer) refl
+  where
+    go : (x : KeyAnswer) → startOf ekey ckey .answer ≡ x → StartSays ekey ckey x
+    go Taken e = start-keys ekey ckey (ap keyNumber e)
+    go KeyLength e = λ te tc. let z : _≡_ {A = ℕ} 0 1 = sym (start-fresh ekey ckey te tc .0) ∙ ap keyNumber e in omega arith
 
 pub start-takes : (ekey ckey : List ℕ) → KeyTaken ekey → KeyTaken ckey → keyNumber (startOf ekey ckey .answer) ≡ 0
 start-takes ekey ckey te tc = start-fresh ekey ckey te tc .0
 
--- a turn is refused as a whole by 5, 6 or 4 where the table says so; else it stops at its end or at a block
-pub turn-as-told : (r : Reader) (lent : List ℕ) (asked : ℕ) (out : List ℕ) → StopSays lent asked out (turnOf r lent asked out .0 .stop)
-turn-as-told r lent asked out =
-    told-turn r lent asked out (λ (t : Turn × List ℕ). StopSays lent asked out (t .0 .stop)) (λ x. x) (λ x. x) (λ x. x)
-    (λ f.
-    ends-or-at (keysOf r) (r .progress) (given lent asked) (StopSays lent asked out (readingOf r lent asked .stop))
-    (λ q. subst (StopSays lent asked out) (sym q) f) (λ y q. subst (StopSays lent asked out) (sym q) f))
+-- a refused start gives zeros: no words, no rounds, and no progress
+pub refused-start-gives-zeros : (ekey ckey : List ℕ) → keyNumber (startOf ekey ckey .answer) ≡ 1
+    → startOf ekey ckey .reader ≡ record {
+      enc = record { words = replicate 60 0; rounds = 0 };
+      chk = record { words = replicate 60 0; rounds = 0 };
+      progress = record { next = 0; fixed = false; count = 0; release = 0 };
+    }
+refused-start-gives-zeros ekey ckey h = start-zeros ekey ckey h
+
+-- a turn is refused as a whole by 5, 6 or 4, the first that holds; else it stops at the first block that is refused, or at its end
+pub turn-stop-as-told : (r : Reader) (lent : List ℕ) (asked : ℕ) (out : List ℕ) → StopSays r lent asked out (turnOf r lent asked out .0 .stop)
+turn-stop-as-told r lent asked out =
+    told-turn r lent asked out (λ (t : Turn × List ℕ). StopSays r lent asked out (t .0 .stop)) (λ x. x) (λ x. x) (λ x. x)
+    (λ f. ends-or-at (blocksBy r) s bs (StopSays r lent asked out (R .stop)) (λ q. subst (StopSays r lent asked out) (sym q) (ended f q)) (λ y q. subst (StopSays r lent asked out) (sym q) (stopped f y q)))
+  where
+    s : Standing
+    s = standing (r .progress)
+
+    bs : List (List ℕ)
+    bs = given lent asked
+
+    R : Reading
+    R = readingOf r lent asked
+
+    ended : Fair lent asked out → R .stop ≡ End → StopSays r lent asked out End
+    ended f q =
+        let n : R .accepted ≡ handled lent asked = end-all (blocksBy r) s bs q ∙ cut-length (handled lent asked) lent in
+        (f, subst (λ (m : ℕ). AllMet (keysOf r) one s m bs) n (ran-met (keysOf r) one s bs))
+
+    stopped : Fair lent asked out → (y : Reason) → R .stop ≡ At (R .accepted) y → StopSays r lent asked out (At (R .accepted) y)
+    stopped f y q =
+        let p = stop-place (blocksBy r) s bs (R .accepted) y q in (
+          f,
+          subst (λ (m : ℕ). R .accepted < m) (cut-length (handled lent asked) lent) (p .1),
+          ran-met (keysOf r) one s bs,
+          subst (λ (t : Standing). Says (keysOf r) one t (getD bs (R .accepted) []) (Refused y)) (ran-state (blocksBy r) s bs)
+              (verdict-says (keysOf r) one (R .standing) (getD bs (R .accepted) []) (Refused y) (p .2)),
+        )
+
+pub turn-ends : (r : Reader) (lent : List ℕ) (asked : ℕ) (out : List ℕ) → Fair lent asked out
+    → AllMet (keysOf r) one (standing (r .progress)) (handled lent asked) (given lent asked) → turnOf r lent asked out .0 .stop ≡ End
+turn-ends r lent asked out f m =
+    ap (λ (t : Turn × List ℕ). t .0 .stop) (fair-turn r lent asked out f)
+    ∙ met-ends (keysOf r) one (standing (r .progress)) (given lent asked)
+    (subst (λ (n : ℕ). AllMet (keysOf r) one (standing (r .progress)) n (given lent asked)) (sym (cut-length (handled lent asked) lent)) m)
+
+-- a reader is complete once count and release are fixed and the number expected is the count, or not complete
+pub completion-as-told : (r : Reader) → CompletionSays (r .progress) (completionOf r)
+unfolding completionOf done
+completion-as-told r = go (r .progress .fixed) (eqb (r .progress .next) (r .progress .count)) refl refl
+  where
+    unlike : (t : Bool) → t ≡ true → t ≡ false → ⊥
+    unlike t e f = let z : true ≡ false = sym e ∙ f in let y : _≡_ {A = ℕ} 0 1 = cc in omega arith
+
+    go : (a b : Bool) → r .progress .fixed ≡ a → eqb (r .progress .next) (r .progress .count) ≡ b → CompletionSays (r .progress) (choose (a && b) Complete NotComplete)
+    go true true e f = (e, eqb-true (r .progress .next) (r .progress .count) f)
+    go true false e f = λ x y. eqb-false (r .progress .next) (r .progress .count) f y
+    go false b e f = λ x y. unlike (r .progress .fixed) x e
+
+pub completed : (r : Reader) → r .progress .fixed ≡ true → r .progress .next ≡ r .progress .count → completionOf r ≡ Complete
+unfolding completionOf done
+completed r f e = rw (f, eq-eqb (r .progress .next) (r .progress .count) e)
 
 -- ---- demand 2: what the writer leaves
 
 -- it writes the sealed block into the first 512 bytes of the output, and nothing else
 pub write-output : (ekey ckey : List ℕ) (number count release : ℕ) (payload out : List ℕ) → Bytes payload → writeAnswer ekey ckey number count payload out ≡ Written
-    → (take 512 (afterWrite ekey ckey number count release payload out) ≡ sealed (aesOf ekey) (aesOf ckey) [] (headFor number count release (length payload)) payload)
+    → (take 512 (afterWrite ekey ckey number count release payload out) ≡ blockFor one (aesOf ekey) (aesOf ckey) noCheck number count release payload)
     × (drop 512 (afterWrite ekey ckey number count release payload out) ≡ drop 512 out)
 write-output ekey ckey number count release payload out bp w =
     rw w (output-block ekey ckey number count release payload out bp w, output-rest ekey ckey number count release payload out bp w)
@@ -129,7 +195,7 @@ write-refusal-keeps ekey ckey number count release payload out = go (writeAnswer
 -- a reader under the same keys that waits for it accepts it, and finds the payload and zero fill in it
 pub written-is-accepted : (ekey ckey : List ℕ) (number count release : ℕ) (payload b : List ℕ) → Wrote ekey ckey number count release payload b
     → (s : Progress) → Waits s number count release
-    → (judge (keysOf (readerOf ekey ckey s)) s b ≡ Accepted) × (opened (aesOf ekey) b ≡ filled payload)
+    → (judge (keysOf (readerOf ekey ckey s)) one (standing s) b ≡ Accepted) × (opened (aesOf ekey) b ≡ filled payload)
 written-is-accepted ekey ckey number count release payload b w s a =
     (accepts ekey ckey number count release payload b w s a, opens ekey ckey number count release payload b w)
 
@@ -137,42 +203,63 @@ written-is-accepted ekey ckey number count release payload b w s a =
 pub written-is-read : (ekey ckey : List ℕ) (number count release : ℕ) (payload b : List ℕ) → Wrote ekey ckey number count release payload b
     → (s : Progress) → Waits s number count release → (asked : ℕ) (out : List ℕ) → 0 < asked → asked ≤ 128 → 480 ≤ length out
     → turnOf (readerOf ekey ckey s) b asked out
-    ≡ (record { reader = readerOf ekey ckey (taken s (headFor number count release (length payload))); accepted = 1; bytes = length payload; stop = End }, over (filled payload) out)
+    ≡ (record { reader = readerOf ekey ckey (advanced s (headFor one number count release (length payload))); accepted = 1; bytes = length payload; stop = End }, over (filled payload) out)
 written-is-read ekey ckey number count release payload b w s a asked out la ha lo =
     one-accepted (readerOf ekey ckey s) b asked out (size ekey ckey number count release payload b w) la ha lo (accepts ekey ckey number count release payload b w s a)
-    ∙ ap₂ (λ (h : Head) (x : List ℕ). (record { reader = readerOf ekey ckey (taken s h); accepted = 1; bytes = h .len; stop = End }, over x out))
+    ∙ ap₂ (λ (h : Head) (x : List ℕ). (record { reader = readerOf ekey ckey (advanced s h); accepted = 1; bytes = h .len; stop = End }, over x out))
     (head-is ekey ckey number count release payload b w)
     (ap (λ (k : Keys). opened (k .enc) b) (keys-are ekey ckey number count release payload b w s) ∙ opens ekey ckey number count release payload b w)
 
 -- ---- demand 3: what is damaged is refused
 
 -- a block that is the written one outside one piece of 16 bytes, the check being piece 31, and is not the written one is refused by a
--- reader under the same keys, in every state: by 16 where the image is complete, else by 14
+-- reader under the same keys, wherever it stands: by 16 where the image is complete, else by 14
 pub damaged-is-refused : (ekey ckey : List ℕ) (number count release : ℕ) (payload b : List ℕ) → Wrote ekey ckey number count release payload b
     → (i : ℕ) (d : List ℕ) → Octets 512 d → SameOutside i d b → (d ≡ b → ⊥)
-    → (s : Progress) → judge (keysOf (readerOf ekey ckey s)) s d ≡ choose (done s) (Refused AfterLast) (Refused CheckWrong)
-damaged-is-refused ekey ckey number count release payload b w i d o q n s = refuses ekey ckey number count release payload b w i d o q n s
+    → (s : Progress) (t : Standing) → judge (keysOf (readerOf ekey ckey s)) one t d ≡ choose (done (t .progress)) (Refused AfterLast) (Refused CheckWrong)
+damaged-is-refused ekey ckey number count release payload b w i d o q n s t = refuses ekey ckey number count release payload b w i d o q n s t
 
--- and a turn over it changes nothing
-pub damaged-changes-nothing : (ekey ckey : List ℕ) (number count release : ℕ) (payload b : List ℕ) → Wrote ekey ckey number count release payload b
+-- and ends a turn that has it at any place: the turn accepts no more than the blocks before it, and where it accepts those it stops there
+-- by 14, or by 16 where they completed the image; nothing of it reaches the output
+pub damaged-ends-a-turn : (ekey ckey : List ℕ) (number count release : ℕ) (payload b : List ℕ) → Wrote ekey ckey number count release payload b
     → (i : ℕ) (d : List ℕ) → Octets 512 d → SameOutside i d b → (d ≡ b → ⊥)
-    → (s : Progress) (asked : ℕ) (out : List ℕ) → 0 < asked → asked ≤ 128 → 480 ≤ length out
-    → turnOf (readerOf ekey ckey s) d asked out
-    ≡ (record { reader = readerOf ekey ckey s; accepted = 0; bytes = 0; stop = At 0 (choose (done s) AfterLast CheckWrong) }, out)
-damaged-changes-nothing ekey ckey number count release payload b w i d o q n s asked out la ha lo =
-    one-refused (readerOf ekey ckey s) d asked out (choose (done s) AfterLast CheckWrong) (o .size) la ha lo
-    (refuses ekey ckey number count release payload b w i d o q n s ∙ either (done s))
+    → (s : Progress) (lent : List ℕ) (asked : ℕ) (out : List ℕ) → Bytes lent → Fair lent asked out → (p : ℕ) → p < handled lent asked → getD (given lent asked) p [] ≡ d
+    → (turnOf (readerOf ekey ckey s) lent asked out .0 .accepted ≤ p)
+    × (turnOf (readerOf ekey ckey s) lent asked out .0 .accepted ≡ p
+    → turnOf (readerOf ekey ckey s) lent asked out .0 .stop ≡ At p (choose (done (turnOf (readerOf ekey ckey s) lent asked out .0 .reader .progress)) AfterLast CheckWrong))
+    × (drop (480 * p) (turnOf (readerOf ekey ckey s) lent asked out .1) ≡ drop (480 * p) out)
+damaged-ends-a-turn ekey ckey number count release payload b w i d o q n s lent asked out bl f p hp at =
+    subst (λ (t : Turn × List ℕ). (t .0 .accepted ≤ p) × (t .0 .accepted ≡ p → t .0 .stop ≡ At p (choose (done (t .0 .reader .progress)) AfterLast CheckWrong)) × (drop (480 * p) (t .1) ≡ drop (480 * p) out))
+    (sym (fair-turn r lent asked out f)) (e .0, e .1, rest)
   where
+    r : Reader
+    r = readerOf ekey ckey s
+
+    why : Standing → Reason
+    why t = choose (done (t .progress)) AfterLast CheckWrong
+
     either : (t : Bool) → choose t (Refused AfterLast) (Refused CheckWrong) ≡ Refused (choose t AfterLast CheckWrong)
     either true = refl
     either false = refl
 
+    e : (readingOf r lent asked .accepted ≤ p) × (readingOf r lent asked .accepted ≡ p → readingOf r lent asked .stop ≡ At p (why (readingOf r lent asked .standing)))
+    e = stops-by (blocksBy r) (standing s) (given lent asked) p why (subst (λ (m : ℕ). p < m) (sym (cut-length (handled lent asked) lent)) hp)
+        (λ t. ap (judge (keysOf r) one t) at ∙ refuses ekey ckey number count release payload b w i d o q n s t ∙ either (done (t .progress)))
+
+    rest : drop (480 * p) (over (readingOf r lent asked .out) out) ≡ drop (480 * p) out
+    rest =
+        let R = readingOf r lent asked in
+        let l : length (R .out) ≡ 480 * R .accepted = reading-length r lent asked out bl in
+        let m : length (R .out) + (480 * p - length (R .out)) ≡ 480 * p = omega (arith, e .0) in
+        let k = 480 * p - length (R .out) in
+        ap (λ (x : ℕ). drop x (over (R .out) out)) (sym m) ∙ drop-append-add (R .out) (drop (length (R .out)) out) k ∙ drop-drop k (length (R .out)) out ∙ ap (λ (x : ℕ). drop x out) m
+
 -- and whatever a reader accepts was sealed under its keys: it is what the writer makes of the header and payload found in it
-pub accepted-is-sealed : (r : Reader) (b : List ℕ) → Octets 512 b → judge (keysOf r) (r .progress) b ≡ Accepted
-    → b ≡ sealed (keysOf r .enc) (keysOf r .chk) [] (headOf b) (payload (keysOf r .enc) b)
-accepted-is-sealed r b o e =
-    let m = accepted-met (keysOf r) (r .progress) b e in
-    accepted-sealed (keysOf r) (usable-lawful r (m .usable-keys) .0) (r .progress) b (o .size) (o .bytes) m
+pub accepted-is-sealed : (r : Reader) (ed : Edition) (s : Standing) (b : List ℕ) → Octets 512 b → judge (keysOf r) ed s b ≡ Accepted
+    → b ≡ sealed (keysOf r .enc) (keysOf r .mac) (ed .tail (s .last)) (headOf b) (payload (keysOf r .enc) b)
+accepted-is-sealed r ed s b o e =
+    let m = accepted-met (keysOf r) ed s b e in
+    accepted-sealed (keysOf r) (usable-lawful r (m .usable-keys) .0) ed s b (o .size) (o .bytes) m
 
 -- ---- demand 3: a whole image
 
@@ -180,7 +267,7 @@ accepted-is-sealed r b o e =
 pub image-is-written : (ekey ckey : List ℕ) (release : ℕ) (payload : List ℕ) → KeyTaken ekey → KeyTaken ckey → release < 4294967296 → length payload ≤ 31456800 → Bytes payload
     → (i : ℕ) → i < blocks payload → (out : List ℕ) → 512 ≤ length out
     → (writeAnswer ekey ckey i (blocks payload) (piece 480 payload i) out ≡ Written)
-    × (take 512 (afterWrite ekey ckey i (blocks payload) release (piece 480 payload i) out) ≡ getD (image (aesOf ekey) (aesOf ckey) release payload) i [])
+    × (take 512 (afterWrite ekey ckey i (blocks payload) release (piece 480 payload i) out) ≡ getD (image one (aesOf ekey) (aesOf ckey) release payload) i [])
 image-is-written ekey ckey release payload te tc hr lp bp i hi out lo =
     let N = blocks payload in
     let q = piece 480 payload i in
@@ -191,17 +278,20 @@ image-is-written ekey ckey release payload te tc hr lp bp i hi out lo =
     let a : writeAnswer ekey ckey i N q out ≡ Written = fit-written ekey ckey i N q out te tc (fits-count N (omega arith) (omega arith)) hi (left-fits N i (drop (i * 480) payload) hi left) lo in (
       a,
       rw a (output-block ekey ckey i N release q out (take-bytes 480 (drop (i * 480) payload) (drop-bytes (i * 480) payload bp)) a)
-          ∙ ap (λ (n : ℕ). sealed (aesOf ekey) (aesOf ckey) [] (headFor n N release (length q)) q) (sym (zero-add i))
-          ∙ sym (written-at (aesOf ekey) (aesOf ckey) N release N 0 payload i hi),
+          ∙ ap (λ (n : ℕ). blockFor one (aesOf ekey) (aesOf ckey) noCheck n N release q) (sym (zero-add i))
+          ∙ sym (written-at one (aesOf ekey) (aesOf ckey) N release N 0 noCheck payload i hi),
     )
 
-pub image-length : (ek ck : BlockCipher) (release : ℕ) (payload : List ℕ) → length (image ek ck release payload) ≡ blocks payload
-image-length ek ck release payload = written-length ek ck (blocks payload) release (blocks payload) 0 payload
+pub image-length : (ed : Edition) (ek ck : BlockCipher) (release : ℕ) (payload : List ℕ) → length (image ed ek ck release payload) ≡ blocks payload
+image-length ed ek ck release payload = written-length ed ek ck (blocks payload) release (blocks payload) 0 noCheck payload
+
+one-proper : Proper one
+one-proper = record { mark-wide = omega arith; tail-bytes = λ x o k. omega arith }
 
 -- read in any turns, whatever blocks each lends and however many it asks for, as long as those handled are the image, every block is
 -- accepted, the reader is complete at the end, the payloads handed out join to the payload, and the lengths given add up to its length
 pub image-is-read : (ekey ckey : List ℕ) (release : ℕ) (payload : List ℕ) → KeyTaken ekey → KeyTaken ckey → release < 4294967296 → length payload ≤ 31456800 → Bytes payload
-    → (ls : List Lending) → AllFair ls → offered ls ≡ image (aesOf ekey) (aesOf ckey) release payload
+    → (ls : List Lending) → AllFair ls → offered ls ≡ image one (aesOf ekey) (aesOf ckey) release payload
     → AllAccepted (startOf ekey ckey .reader) ls
     × (completionOf (readerAfter (startOf ekey ckey .reader) ls) ≡ Complete)
     × (handedOut (startOf ekey ckey .reader) ls ≡ payload)
@@ -212,15 +302,15 @@ image-is-read ekey ckey release payload te tc hr lp bp ls f e =
     let lc = key-lawful ckey tc in
     let r = startOf ekey ckey .reader in
     let s = start-fresh ekey ckey te tc in
-    let w : Blocks (offered ls) = rw e (image-blocks (aesOf ekey) (aesOf ckey) le lc release payload hr lp bp) in
-    let p : Passes (keysUnder ekey ckey) (r .progress) (offered ls) = rw (s .2, e) (image-passes (aesOf ekey) (aesOf ckey) le lc release payload hr lp bp) in
+    let w : Blocks (offered ls) = rw e (image-blocks one one-proper (aesOf ekey) (aesOf ckey) le lc release payload hr lp bp) in
+    let p : Passes (keysUnder ekey ckey) one (standing (r .progress)) (offered ls) = rw (s .2, e) (image-passes one one-proper (aesOf ekey) (aesOf ckey) le lc release payload hr lp bp) in
     let t = turns-read (keysUnder ekey ckey) le r (s .1) ls f w p in
-    let whole : parts (aesOf ekey) (offered ls) ≡ payload = ap (parts (aesOf ekey)) e ∙ image-parts (aesOf ekey) (aesOf ckey) le lc release payload hr lp bp in
+    let whole : parts (aesOf ekey) (offered ls) ≡ payload = ap (parts (aesOf ekey)) e ∙ image-parts one one-proper (aesOf ekey) (aesOf ckey) le lc release payload hr lp bp in
     (t .0, rw (t .1), t .2 ∙ whole, t .3 ∙ ap length whole)
 
 -- blocks may be cut into turns at any place: a run over some and then a run over the rest are the run over all
-pub cut-anywhere : (k : Keys) (s : Progress) (cs bs : List (List ℕ)) → ran k s cs .stop ≡ End → ran k s (cs ++ bs) ≡ andThen (ran k s cs) (ran k (ran k s cs .progress) bs)
-cut-anywhere k s cs bs e = ran-append k s cs bs e
+pub cut-anywhere : (d : BlockReader) (s : Standing) (cs bs : List (List ℕ)) → ran d s cs .stop ≡ End → ran d s (cs ++ bs) ≡ andThen (ran d s cs) (ran d (ran d s cs .standing) bs)
+cut-anywhere d s cs bs e = ran-append d s cs bs e
 
 -- blocks lent one after another are those that the turn handles, as far as it asks for them
 pub given-joined : (bs : List (List ℕ)) (asked : ℕ) → Blocks bs → length bs ≤ asked
@@ -259,7 +349,7 @@ pub turn-advance : (r : Reader) (lent : List ℕ) (asked : ℕ) (out : List ℕ)
 turn-advance r lent asked out =
     by-turn r lent asked out (λ (t : Turn × List ℕ). t .0 .reader .progress .next ≡ r .progress .next + t .0 .accepted)
     (sym (add-zero (r .progress .next))) (sym (add-zero (r .progress .next))) (sym (add-zero (r .progress .next)))
-    (λ f. advance (keysOf r) (r .progress) (given lent asked))
+    (λ f. advance (blocksBy r) (standing (r .progress)) (given lent asked))
 
 -- where nothing is refused, they are the blocks handled: the smaller of those lent and the number asked for
 pub turn-takes-all : (r : Reader) (lent : List ℕ) (asked : ℕ) (out : List ℕ)
@@ -267,7 +357,7 @@ pub turn-takes-all : (r : Reader) (lent : List ℕ) (asked : ℕ) (out : List �
 turn-takes-all r lent asked out =
     by-turn r lent asked out (λ (t : Turn × List ℕ). stopNumber (t .0 .stop) ≡ 0 → t .0 .accepted ≡ handled lent asked)
     (λ e. absurd (omega arith)) (λ e. absurd (omega arith)) (λ e. absurd (omega arith))
-    (λ f e. end-all (keysOf r) (r .progress) (given lent asked) (ended (readingOf r lent asked .stop) e) ∙ cut-length (handled lent asked) lent)
+    (λ f e. end-all (blocksBy r) (standing (r .progress)) (given lent asked) (ended (readingOf r lent asked .stop) e) ∙ cut-length (handled lent asked) lent)
   where
     some : (y : Reason) → reasonNumber y ≡ 0 → ⊥
     some (Count v) e = omega arith
@@ -290,27 +380,28 @@ turn-takes-all r lent asked out =
 
 -- every accepted block met every test, in the state after those before it
 pub turn-met : (r : Reader) (lent : List ℕ) (asked : ℕ) (out : List ℕ)
-    → AllMet (keysOf r) (r .progress) (turnOf r lent asked out .0 .accepted) (given lent asked)
+    → AllMet (keysOf r) one (standing (r .progress)) (turnOf r lent asked out .0 .accepted) (given lent asked)
 turn-met r lent asked out =
-    by-turn r lent asked out (λ (t : Turn × List ℕ). AllMet (keysOf r) (r .progress) (t .0 .accepted) (given lent asked))
-    tt tt tt (λ f. ran-met (keysOf r) (r .progress) (given lent asked))
+    by-turn r lent asked out (λ (t : Turn × List ℕ). AllMet (keysOf r) one (standing (r .progress)) (t .0 .accepted) (given lent asked))
+    tt tt tt (λ f. ran-met (keysOf r) one (standing (r .progress)) (given lent asked))
 
 -- the state moves by the accepted blocks alone, and the keys stay: a refused block changes nothing, and may be offered again
 pub turn-state : (r : Reader) (lent : List ℕ) (asked : ℕ) (out : List ℕ)
-    → turnOf r lent asked out .0 .reader ≡ inState r (moved (r .progress) (take (turnOf r lent asked out .0 .accepted) (given lent asked)))
+    → turnOf r lent asked out .0 .reader ≡ inState r (moved (standing (r .progress)) (take (turnOf r lent asked out .0 .accepted) (given lent asked)) .progress)
 turn-state r lent asked out =
-    by-turn r lent asked out (λ (t : Turn × List ℕ). t .0 .reader ≡ inState r (moved (r .progress) (take (t .0 .accepted) (given lent asked))))
-    refl refl refl (λ f. ap (inState r) (ran-state (keysOf r) (r .progress) (given lent asked)))
+    by-turn r lent asked out (λ (t : Turn × List ℕ). t .0 .reader ≡ inState r (moved (standing (r .progress)) (take (t .0 .accepted) (given lent asked)) .progress))
+    refl refl refl (λ f. ap (λ (x : Standing). inState r (x .progress)) (ran-state (blocksBy r) (standing (r .progress)) (given lent asked)))
 
 -- a refusal names the place of its block, which is the number of blocks accepted, and gives that block's verdict
 pub turn-place : (r : Reader) (lent : List ℕ) (asked : ℕ) (out : List ℕ) (place : ℕ) (reason : Reason) → turnOf r lent asked out .0 .stop ≡ At place reason
     → (place ≡ turnOf r lent asked out .0 .accepted)
-    × (judge (keysOf r) (turnOf r lent asked out .0 .reader .progress) (getD (given lent asked) place []) ≡ Refused reason)
+    × (judge (keysOf r) one (standing (turnOf r lent asked out .0 .reader .progress)) (getD (given lent asked) place []) ≡ Refused reason)
+unfolding judge
 turn-place r lent asked out p y =
     by-turn r lent asked out
-    (λ (t : Turn × List ℕ). t .0 .stop ≡ At p y → (p ≡ t .0 .accepted) × (judge (keysOf r) (t .0 .reader .progress) (getD (given lent asked) p []) ≡ Refused y))
+    (λ (t : Turn × List ℕ). t .0 .stop ≡ At p y → (p ≡ t .0 .accepted) × (judge (keysOf r) one (standing (t .0 .reader .progress)) (getD (given lent asked) p []) ≡ Refused y))
     (λ e. let z : _≡_ {A = ℕ} 0 1 = cc in absurd (omega arith)) (λ e. let z : _≡_ {A = ℕ} 0 1 = cc in absurd (omega arith)) (λ e. let z : _≡_ {A = ℕ} 0 1 = cc in absurd (omega arith))
-    (λ f e. stop-place (keysOf r) (r .progress) (given lent asked) p y e)
+    (λ f e. let q = stop-place (blocksBy r) (standing (r .progress)) (given lent asked) p y e in (q .0, q .2))
 
 -- the first accepted block fixes count and release, for all that follow
 pub turn-fixes : (r : Reader) (lent : List ℕ) (asked : ℕ) (out : List ℕ) → 0 < turnOf r lent asked out .0 .accepted
@@ -324,11 +415,11 @@ turn-fixes r lent asked out =
     (λ e. absurd (omega arith)) (λ e. absurd (omega arith)) (λ e. absurd (omega arith))
     (λ f. go (given lent asked))
   where
-    go : (bs : List (List ℕ)) → 0 < ran (keysOf r) (r .progress) bs .accepted
-        → (ran (keysOf r) (r .progress) bs .progress .fixed ≡ true)
-        × (ran (keysOf r) (r .progress) bs .progress .count ≡ headOf (getD bs 0 []) .count) × (ran (keysOf r) (r .progress) bs .progress .release ≡ headOf (getD bs 0 []) .release)
-    go [] h = absurd (omega (arith, accepted-le (keysOf r) (r .progress) []))
-    go (b ∷ bs) h = first-fixes (keysOf r) (r .progress) b bs h
+    go : (bs : List (List ℕ)) → 0 < ran (blocksBy r) (standing (r .progress)) bs .accepted
+        → (ran (blocksBy r) (standing (r .progress)) bs .standing .progress .fixed ≡ true)
+        × (ran (blocksBy r) (standing (r .progress)) bs .standing .progress .count ≡ headOf (getD bs 0 []) .count) × (ran (blocksBy r) (standing (r .progress)) bs .standing .progress .release ≡ headOf (getD bs 0 []) .release)
+    go [] h = absurd (omega (arith, accepted-le (blocksBy r) (standing (r .progress)) []))
+    go (b ∷ bs) h = first-fixes (keysOf r) one (standing (r .progress)) b bs h
 
 -- where no block is accepted, nothing is changed: a refused block fixes nothing, and leaves state and output as they were
 pub turn-of-none : (r : Reader) (lent : List ℕ) (asked : ℕ) (out : List ℕ) → turnOf r lent asked out .0 .accepted ≡ 0
@@ -337,8 +428,8 @@ turn-of-none r lent asked out =
     by-turn r lent asked out (λ (t : Turn × List ℕ). t .0 .accepted ≡ 0 → (t .0 .reader ≡ r) × (t .0 .bytes ≡ 0) × (t .1 ≡ out))
     (λ e. (refl, refl, refl)) (λ e. (refl, refl, refl)) (λ e. (refl, refl, refl))
     (λ f e.
-    let n = none-accepted (keysOf r) (r .progress) (given lent asked) e in
-    (ap (inState r) (n .0), n .1, ap (λ (x : List ℕ). over x out) (n .2)))
+    let n = none-accepted (blocksBy r) (standing (r .progress)) (given lent asked) e in
+    (ap (λ (x : Standing). inState r (x .progress)) (n .0), n .1, ap (λ (x : List ℕ). over x out) (n .2)))
 
 -- a refusal of the whole turn gives the state it got, counts of 0, and the output as it was
 pub turn-refusal-keeps : (r : Reader) (lent : List ℕ) (asked : ℕ) (out : List ℕ) (why : Stop) → Whole why → turnOf r lent asked out .0 .stop ≡ why
@@ -348,7 +439,7 @@ turn-refusal-keeps r lent asked out why w =
     (λ e. ap (λ (x : Stop). (record { reader = r; accepted = 0; bytes = 0; stop = x }, out)) e)
     (λ e. ap (λ (x : Stop). (record { reader = r; accepted = 0; bytes = 0; stop = x }, out)) e)
     (λ e. ap (λ (x : Stop). (record { reader = r; accepted = 0; bytes = 0; stop = x }, out)) e)
-    (λ f e. absurd (ends-or-at (keysOf r) (r .progress) (given lent asked) ⊥ (λ q. not-whole-end why w (sym e ∙ q)) (λ y q. not-whole-at why w (readingOf r lent asked .accepted) y (sym e ∙ q))))
+    (λ f e. absurd (ends-or-at (blocksBy r) (standing (r .progress)) (given lent asked) ⊥ (λ q. not-whole-end why w (sym e ∙ q)) (λ y q. not-whole-at why w (readingOf r lent asked .accepted) y (sym e ∙ q))))
   where
     not-whole-end : (x : Stop) → Whole x → x ≡ End → ⊥
     not-whole-end End w e = w
@@ -375,8 +466,8 @@ turn-puts r lent asked out b j =
   where
     go : j < readingOf r lent asked .accepted → (u : Bool) → keysOf r .usable ≡ u
         → take 480 (drop (480 * j) (over (readingOf r lent asked .out) out)) ≡ opened (keysOf r .enc) (getD (given lent asked) j [])
-    go h true e = out-at (keysOf r) (usable-lawful r e .0) (r .progress) (given lent asked) (given-blocks lent asked b) (drop (length (readingOf r lent asked .out)) out) j h
-    go h false e = absurd (omega (arith, no-keys-none (keysOf r) e (r .progress) (given lent asked)))
+    go h true e = out-at (keysOf r) one (usable-lawful r e .0) (standing (r .progress)) (given lent asked) (given-blocks lent asked b) (drop (length (readingOf r lent asked .out)) out) j h
+    go h false e = absurd (omega (arith, no-keys-none (keysOf r) one e (standing (r .progress)) (given lent asked)))
 
 -- they are all that is written, and the rest of the output stays
 pub turn-output : (r : Reader) (lent : List ℕ) (asked : ℕ) (out : List ℕ) → Bytes lent
@@ -392,7 +483,7 @@ turn-output r lent asked out b =
     let R = readingOf r lent asked in
     let n : length (R .out) ≡ 480 * R .accepted = reading-length r lent asked out b in
     let a : R .accepted ≤ handled lent asked = reading-le r lent asked out in (
-      take-at (R .out) (drop (length (R .out)) out) (480 * R .accepted) n ∙ ran-out (keysOf r) (r .progress) (given lent asked),
+      take-at (R .out) (drop (length (R .out)) out) (480 * R .accepted) n ∙ ran-out (keysOf r) one (standing (r .progress)) (given lent asked),
       drop-at (R .out) (drop (length (R .out)) out) (480 * R .accepted) n ∙ ap (λ (m : ℕ). drop m out) n,
       length-append (R .out) (drop (length (R .out)) out) ∙ omega (arith, length-drop (length (R .out)) out, n, a, f .room),
     ))
@@ -408,33 +499,33 @@ turn-fills r lent asked out b =
     (tt, refl) (tt, refl) (tt, refl)
     (λ f.
     let a = go (keysOf r .usable) refl in
-    (a, ran-bytes (keysOf r) (r .progress) (given lent asked) ∙ sym (parts-length (keysOf r .enc) (take (readingOf r lent asked .accepted) (given lent asked)) a)))
+    (a, ran-bytes (blocksBy r) (standing (r .progress)) (given lent asked) ∙ sym (parts-length (keysOf r .enc) (take (readingOf r lent asked .accepted) (given lent asked)) a)))
   where
     go : (u : Bool) → keysOf r .usable ≡ u → AllFilled (keysOf r .enc) (take (readingOf r lent asked .accepted) (given lent asked))
-    go true e = met-filled (keysOf r) (usable-lawful r e .0) (r .progress) (readingOf r lent asked .accepted) (given lent asked) (given-blocks lent asked b) (ran-met (keysOf r) (r .progress) (given lent asked))
-    go false e = rw (no-keys-none (keysOf r) e (r .progress) (given lent asked)) tt
+    go true e = met-filled (keysOf r) one (usable-lawful r e .0) (standing (r .progress)) (readingOf r lent asked .accepted) (given lent asked) (given-blocks lent asked b) (ran-met (keysOf r) one (standing (r .progress)) (given lent asked))
+    go false e = rw (no-keys-none (keysOf r) one e (standing (r .progress)) (given lent asked)) tt
 
 -- ---- demand 2: a reader without usable keys accepts nothing
 
 -- every block is refused by 14, or by 16 where the state is complete
-pub no-keys-refuses : (r : Reader) → keysOf r .usable ≡ false → (b : List ℕ) → judge (keysOf r) (r .progress) b ≡ choose (done (r .progress)) (Refused AfterLast) (Refused CheckWrong)
-no-keys-refuses r e b = no-keys (keysOf r) (r .progress) b e
+pub no-keys-refuses : (r : Reader) → keysOf r .usable ≡ false → (ed : Edition) (s : Standing) (b : List ℕ) → judge (keysOf r) ed s b ≡ choose (done (s .progress)) (Refused AfterLast) (Refused CheckWrong)
+no-keys-refuses r e ed s b = no-keys (keysOf r) ed s b e
 
 pub no-keys-turn : (r : Reader) → keysOf r .usable ≡ false → (lent : List ℕ) (asked : ℕ) (out : List ℕ)
     → (turnOf r lent asked out .0 .accepted ≡ 0) × (turnOf r lent asked out .0 .reader ≡ r) × (turnOf r lent asked out .1 ≡ out)
 no-keys-turn r e lent asked out =
     let a : turnOf r lent asked out .0 .accepted ≡ 0 =
-    by-turn r lent asked out (λ (t : Turn × List ℕ). t .0 .accepted ≡ 0) refl refl refl (λ f. no-keys-none (keysOf r) e (r .progress) (given lent asked)) in
+    by-turn r lent asked out (λ (t : Turn × List ℕ). t .0 .accepted ≡ 0) refl refl refl (λ f. no-keys-none (keysOf r) one e (standing (r .progress)) (given lent asked)) in
     let n = turn-of-none r lent asked out a in
     (a, n .0, n .2)
 
 -- such is the state that a refused start gives: every block gets 14, and no turn changes anything
 pub refused-start-refuses : (ekey ckey : List ℕ) → keyNumber (startOf ekey ckey .answer) ≡ 1
-    → (b : List ℕ) → judge (keysOf (startOf ekey ckey .reader)) (startOf ekey ckey .reader .progress) b ≡ Refused CheckWrong
+    → (b : List ℕ) → judge (keysOf (startOf ekey ckey .reader)) one (standing (startOf ekey ckey .reader .progress)) b ≡ Refused CheckWrong
 unfolding done
 refused-start-refuses ekey ckey h b =
     let s = start-refused ekey ckey h in
-    no-keys-refuses (startOf ekey ckey .reader) (s .0) b ∙ ap unchecked (s .1)
+    no-keys-refuses (startOf ekey ckey .reader) (s .0) one (standing (startOf ekey ckey .reader .progress)) b ∙ ap unchecked (s .1)
 
 pub refused-start-turn : (ekey ckey : List ℕ) → keyNumber (startOf ekey ckey .answer) ≡ 1 → (lent : List ℕ) (asked : ℕ) (out : List ℕ)
     → (turnOf (startOf ekey ckey .reader) lent asked out .0 .accepted ≡ 0)
@@ -449,17 +540,17 @@ pub start-is-open : (ekey ckey : List ℕ) → completionOf (startOf ekey ckey .
 unfolding completionOf done
 start-is-open ekey ckey = ap (λ (s : Progress). choose (done s) Complete NotComplete) (fresh-start ekey ckey)
 
-pub last-completes : (r : Reader) (b : List ℕ) → judge (keysOf r) (r .progress) b ≡ Accepted
-    → completionOf (inState r (taken (r .progress) (headOf b))) ≡ choose (eqb (headOf b .number + 1) (headOf b .count)) Complete NotComplete
+pub last-completes : (r : Reader) (b : List ℕ) → judge (keysOf r) one (standing (r .progress)) b ≡ Accepted
+    → completionOf (inState r (advanced (r .progress) (headOf b))) ≡ choose (eqb (headOf b .number + 1) (headOf b .count)) Complete NotComplete
 unfolding completionOf done
 last-completes r b e =
-    ap (λ (n : ℕ). choose (eqb (n + 1) (headOf b .count)) Complete NotComplete) (sym (accepted-met (keysOf r) (r .progress) b e .head-right .expected))
+    ap (λ (n : ℕ). choose (eqb (n + 1) (headOf b .count)) Complete NotComplete) (sym (accepted-met (keysOf r) one (standing (r .progress)) b e .head-right .expected))
 
 -- ---- the states that a start and turns make
 
 -- once count and release are fixed, the number expected is never past the count; before, it is 0
 pub from-start-sound : (ekey ckey : List ℕ) (r : Reader) → FromStart ekey ckey r → Sound (r .progress)
-from-start-sound ekey ckey r f = reached-sound (keysOf r) (r .progress) (from-reached ekey ckey r f)
+from-start-sound ekey ckey r f = from-sound ekey ckey r f
 
 -- and no turn of theirs stops by 11
 pub from-start-never-11 : (ekey ckey : List ℕ) (r : Reader) → FromStart ekey ckey r → (lent : List ℕ) (asked : ℕ) (out : List ℕ) (place value : ℕ)
@@ -467,4 +558,4 @@ pub from-start-never-11 : (ekey ckey : List ℕ) (r : Reader) → FromStart ekey
 from-start-never-11 ekey ckey r f lent asked out p v =
     by-turn r lent asked out (λ (t : Turn × List ℕ). t .0 .stop ≡ At p (NotBelow v) → ⊥)
     (λ e. let z : _≡_ {A = ℕ} 0 1 = cc in omega arith) (λ e. let z : _≡_ {A = ℕ} 0 1 = cc in omega arith) (λ e. let z : _≡_ {A = ℕ} 0 1 = cc in omega arith)
-    (λ g e. ran-never-11 (keysOf r) (r .progress) (given lent asked) p v (from-reached ekey ckey r f) e)
+    (λ g e. ran-never-11 (keysOf r) one (standing (r .progress)) (given lent asked) p v (from-sound ekey ckey r f) e)

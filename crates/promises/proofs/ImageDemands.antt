@@ -1,25 +1,37 @@
--- Demand 1 for the header's and the image's calls: each asks nothing of its caller, any two outcomes that its contract allows agree,
+-- Demand 1 for the calls of headers, blocks and images: each asks nothing of its caller, any two outcomes that its contract allows agree,
 -- and a refused call leaves the output as it was. Then demands 2 and 3 for the calls themselves. Assumes nothing.
-use mathlib.Core.Path.{_≡_, refl, sym, ap, ap₂, _∙_}
-use mathlib.Core.List.{List}
-use Prim.Native.Nat.{ℕ, _≤_, _<_}
+use mathlib.Core.Path.{_≡_, sym, ap, ap₂, subst, _∙_}
+use mathlib.Core.Bool.{true, false, _&&_}
+use mathlib.Core.List.{List, []}
+use Prim.Native.Nat.{ℕ, _*_, _≤_, _<_}
 use denote.Ref.{now}
-use native.Mathlib.Omega.{arith}
-use lib.ListN.{length, take}
+use lib.Dec.{leb}
+use lib.ListN.{length, getD, take, drop, replicate}
 use Rattle.octets.specs.Octets.{Bytes, Octets, choose, over}
+use Rattle.schedule.specs.Schedule.{keyNumber}
+use Rattle.lookups.specs.Tables.{tableCipher}
 use Rattle.sp800_38b.specs.Cmac.{SameOutside}
-use Rattle.header.specs.Rules.{done}
+use Rattle.header.specs.Rules.{done, verdictNumber}
 use Rattle.header.specs.declared.Progress.{Progress}
 use Rattle.header.specs.declared.Reason.the-variants.{AfterLast, CheckWrong}
-use Rattle.image.specs.Sealed.{filled}
-use Rattle.image.specs.Calls.{writeNumber, writeOutput, turnOf}
+use Rattle.header.specs.declared.Reason.{Reason}
+use Rattle.header.specs.Layout.{headOf}
+use Rattle.format.specs.Edition.{one}
+use Rattle.format.specs.Sealed.{filled}
+use Rattle.format.specs.Judge.{Keys, standing}
+use Rattle.format.specs.Lent.{usable, lentMac, lentKeys, isBlock, openedOver, sealedOver}
+use Rattle.format.proofs.Sizes.{mac-sized}
+use Rattle.format.proofs.Judging.{checks-none, verdict-read, head-read}
+use Rattle.format.proofs.Opening.{fill-of-none}
+use Rattle.image.specs.Calls.{writeNumber, writeOutput, keysOf, handled, turnOf, stopNumber, completionNumber}
 use Rattle.image.specs.declared.WriteAnswer.{WriteAnswer}
-use Rattle.image.specs.declared.WriteAnswer.the-variants.{Written, WriteKey, WriteCount, WriteNumber, WriteLength, WriteRoom}
 use Rattle.image.specs.declared.Reader.{Reader}
+use Rattle.image.specs.declared.ReadStarted.{ReadStarted}
 use Rattle.image.specs.declared.Stop.the-variants.{End, At}
 use Rattle.image.specs.declared.Turn.{Turn}
-use Rattle.promises.proofs.ImageTerms.{Wrote, Waits, Whole, readerOf}
-use Rattle.promises.proofs.Image.{written-is-read, damaged-changes-nothing, write-refusal-keeps, turn-refusal-keeps}
+use Rattle.promises.proofs.Keys.{KeyTaken}
+use Rattle.promises.proofs.ImageTerms.{Row, Says, AllMet, Fit, WriteSays, StartSays, StopSays, CompletionSays, Fair, Wrote, Waits, Whole, given, readerOf}
+use Rattle.promises.proofs.Image.{verdict-as-told, verdict-done, write-answer-as-told, fit-is-written, start-says, start-takes, refused-start-gives-zeros, turn-stop-as-told, turn-ends, completion-as-told, completed, written-is-read, damaged-ends-a-turn, write-refusal-keeps, turn-refusal-keeps}
 use Rattle.blocks.proofs.equal.Reads as equal
 use Rattle.header.proofs.head_of.Reads as head-of
 use Rattle.header.proofs.head_bytes.Reads as head-bytes
@@ -27,6 +39,11 @@ use Rattle.header.proofs.complete.Reads as complete
 use Rattle.header.proofs.count_fits.Reads as count-fits
 use Rattle.header.proofs.length_fits.Reads as length-fits
 use Rattle.header.proofs.judge_head.Reads as judge-head
+use Rattle.seal.proofs.check_holds.Reads as check-holds
+use Rattle.seal.proofs.fill_is_zero.Reads as fill-is-zero
+use Rattle.seal.proofs.judge.Reads as judge
+use Rattle.seal.proofs.open_block.Reads as open-block
+use Rattle.seal.proofs.seal.Reads as seal
 use Rattle.image.proofs.read_start.Reads as read-start
 use Rattle.image.proofs.read_complete.Reads as read-complete
 use Rattle.image.proofs.write.Reads as write
@@ -73,6 +90,81 @@ judge-head-asks-nothing κs a = tt
 
 pub judge-head-determined : (κs : _) (a : _) (r r′ : _) (s s′ : _) → judge-head.Post κs a r s → judge-head.Post κs a r′ s′ → r ≡ r′
 judge-head-determined κs a r r′ s s′ p q = p ∙ sym q
+
+-- ---- demand 1 for one block
+
+pub check-holds-asks-nothing : (κs : _) (a : _) → check-holds.Asked κs a
+check-holds-asks-nothing κs a = tt
+
+pub check-holds-determined : (κs : _) (a : _) (r r′ : _) (s s′ : _) → check-holds.Post κs a r s → check-holds.Post κs a r′ s′ → r ≡ r′
+check-holds-determined κs a r r′ s s′ p q = p ∙ sym q
+
+pub fill-is-zero-asks-nothing : (κs : _) (a : _) → fill-is-zero.Asked κs a
+fill-is-zero-asks-nothing κs a = tt
+
+pub fill-is-zero-determined : (κs : _) (a : _) (r r′ : _) (s s′ : _) → fill-is-zero.Post κs a r s → fill-is-zero.Post κs a r′ s′ → r ≡ r′
+fill-is-zero-determined κs a r r′ s s′ p q = p ∙ sym q
+
+pub judge-asks-nothing : (κs : _) (a : _) → judge.Asked κs a
+judge-asks-nothing κs a = tt
+
+pub judge-determined : (κs : _) (a : _) (r r′ : _) (s s′ : _) → judge.Post κs a r s → judge.Post κs a r′ s′ → r ≡ r′
+judge-determined κs a r r′ s s′ p q = p ∙ sym q
+
+pub open-block-asks-nothing : (κs : _) (a : _) → open-block.Asked κs a
+open-block-asks-nothing κs a = tt
+
+pub open-block-determined : (κs : _) (a : _) (r r′ : _) (s s′ : _) → open-block.Post κs a r s → open-block.Post κs a r′ s′
+    → now (s .1 .1 .1 .1 .1 .1 .0) ≡ now (s′ .1 .1 .1 .1 .1 .1 .0)
+open-block-determined κs a r r′ s s′ p q = p ∙ sym q
+
+-- where there is no block of 512 bytes, or no room for 480, nothing is written
+pub open-block-refused-keeps : (κs : _) (a : _) (r : _) (s : _) → open-block.Post κs a r s
+    → (isBlock (now (a .1 .1 .1 .1 .1 .0)) && leb 480 (length (now (a .1 .1 .1 .1 .1 .1 .0)))) ≡ false → now (s .1 .1 .1 .1 .1 .1 .0) ≡ now (a .1 .1 .1 .1 .1 .1 .0)
+unfolding openedOver
+open-block-refused-keeps κs a r s p e = p ∙ rw e
+
+pub seal-asks-nothing : (κs : _) (a : _) → seal.Asked κs a
+seal-asks-nothing κs a = tt
+
+pub seal-determined : (κs : _) (a : _) (r r′ : _) (s s′ : _) → seal.Post κs a r s → seal.Post κs a r′ s′
+    → now (s .1 .1 .1 .1 .1 .1 .1 .1 .1 .0) ≡ now (s′ .1 .1 .1 .1 .1 .1 .1 .1 .1 .0)
+seal-determined κs a r r′ s s′ p q = p ∙ sym q
+
+-- where the payload is over 480 bytes, or there is no room for 512, nothing is written
+pub seal-refused-keeps : (κs : _) (a : _) (r : _) (s : _) → seal.Post κs a r s
+    → (leb (length (now (a .1 .1 .1 .1 .1 .1 .1 .1 .0))) 480 && leb 512 (length (now (a .1 .1 .1 .1 .1 .1 .1 .1 .1 .0)))) ≡ false → now (s .1 .1 .1 .1 .1 .1 .1 .1 .1 .0) ≡ now (a .1 .1 .1 .1 .1 .1 .1 .1 .1 .0)
+unfolding sealedOver
+seal-refused-keeps κs a r s p e = p ∙ rw e
+
+-- what is no block of 512 bytes has no right check and no zero fill
+pub check-holds-of-blocks-alone : (κs : _) (a : _) (r : _) (s : _) → check-holds.Post κs a r s → (length (now (a .1 .1 .1 .1 .1 .1 .0)) ≡ 512 → ⊥) → r ≡ false
+check-holds-of-blocks-alone κs a r s p n =
+    p ∙ sym (checks-none (lentMac (now (a .0)) (now (a .1 .0)) (a .1 .1 .1 .1 .0 .chk) (now (a .1 .1 .0)) (now (a .1 .1 .1 .0))) (now (a .1 .1 .1 .1 .1 .0)) (now (a .1 .1 .1 .1 .1 .1 .0)) (mac-sized (now (a .0)) (now (a .1 .0)) (a .1 .1 .1 .1 .0 .chk) (now (a .1 .1 .0)) (now (a .1 .1 .1 .0))) n (usable (a .1 .1 .1 .1 .0)))
+
+pub fill-is-zero-of-blocks-alone : (κs : _) (a : _) (r : _) (s : _) → fill-is-zero.Post κs a r s → (length (now (a .1 .1 .1 .1 .1 .0)) ≡ 512 → ⊥) → r ≡ false
+fill-is-zero-of-blocks-alone κs a r s p n =
+    p ∙ sym (fill-of-none (tableCipher (now (a .0)) (now (a .1 .0)) (now (a .1 .1 .0)) (now (a .1 .1 .1 .0)) (a .1 .1 .1 .1 .0)) (a .1 .1 .1 .1 .1 .1 .0) (now (a .1 .1 .1 .1 .1 .0)) n)
+
+-- ---- demand 2 for one block: the verdict is the first row of the table that holds, and the header is the block's
+
+module _ (κs : _) (a : _) (r : _) (s : _) (p : judge.Post κs a r s) where
+  abbrev lent : Keys
+  lent = lentKeys (now (a .0)) (now (a .1 .0)) (now (a .1 .1 .0)) (now (a .1 .1 .1 .0)) (now (a .1 .1 .1 .1 .0)) (now (a .1 .1 .1 .1 .1 .0)) (now (a .1 .1 .1 .1 .1 .1 .0)) (a .1 .1 .1 .1 .1 .1 .1 .0)
+
+  pub judge-as-told : Says lent one (standing (a .1 .1 .1 .1 .1 .1 .1 .1 .0)) (now (a .1 .1 .1 .1 .1 .1 .1 .1 .1 .0)) (r .verdict)
+  judge-as-told =
+      subst (Says lent one (standing (a .1 .1 .1 .1 .1 .1 .1 .1 .0)) (now (a .1 .1 .1 .1 .1 .1 .1 .1 .1 .0)))
+      (sym (verdict-read lent (a .1 .1 .1 .1 .1 .1 .1 .1 .0) (now (a .1 .1 .1 .1 .1 .1 .1 .1 .1 .0)) r p)) (verdict-as-told lent one (standing (a .1 .1 .1 .1 .1 .1 .1 .1 .0)) (now (a .1 .1 .1 .1 .1 .1 .1 .1 .1 .0)))
+
+  pub judge-done : ((q : Reason) → Row lent one (standing (a .1 .1 .1 .1 .1 .1 .1 .1 .0)) (now (a .1 .1 .1 .1 .1 .1 .1 .1 .1 .0)) q → ⊥) → verdictNumber (r .verdict) ≡ 0
+  judge-done n =
+      ap verdictNumber (verdict-read lent (a .1 .1 .1 .1 .1 .1 .1 .1 .0) (now (a .1 .1 .1 .1 .1 .1 .1 .1 .1 .0)) r p ∙ verdict-done lent one (standing (a .1 .1 .1 .1 .1 .1 .1 .1 .0)) (now (a .1 .1 .1 .1 .1 .1 .1 .1 .1 .0)) n)
+
+  pub judge-reads-the-header : length (now (a .1 .1 .1 .1 .1 .1 .1 .1 .1 .0)) ≡ 512 → r .head ≡ headOf (now (a .1 .1 .1 .1 .1 .1 .1 .1 .1 .0))
+  judge-reads-the-header e = head-read lent (a .1 .1 .1 .1 .1 .1 .1 .1 .0) (now (a .1 .1 .1 .1 .1 .1 .1 .1 .1 .0)) r p e
+
+-- ---- demand 1 for images
 
 pub read-start-asks-nothing : (κs : _) (a : _) → read-start.Asked κs a
 read-start-asks-nothing κs a = tt
@@ -122,35 +214,70 @@ read-turn-refused-keeps κs a r s p h =
     let k = p ∙ turn-refusal-keeps (a .0) (now (a .1 .0)) (a .1 .1 .0) (now (a .1 .1 .1 .0)) (r .stop) h (sym e) in
     (ap (λ (x : Turn × List ℕ). x .1) k, ap (λ (x : Turn × List ℕ). x .0 .reader) k)
 
+-- ---- demand 2: each answer is the first row of the table that holds, and where none does the call is done
+
+pub write-as-told : (κs : _) (a : _) (r : _) (s : _) → write.Post κs a r s
+    → WriteSays (now (a .0)) (now (a .1 .0)) (a .1 .1 .0) (a .1 .1 .1 .0) (length (now (a .1 .1 .1 .1 .1 .0))) (length (now (a .1 .1 .1 .1 .1 .1 .0))) r
+write-as-told κs a r s p =
+    let payload = now (a .1 .1 .1 .1 .1 .0) in
+    let out = now (a .1 .1 .1 .1 .1 .1 .0) in
+    subst (WriteSays (now (a .0)) (now (a .1 .0)) (a .1 .1 .0) (a .1 .1 .1 .0) (length payload) (length out)) (sym (p .0)) (write-answer-as-told (now (a .0)) (now (a .1 .0)) (a .1 .1 .0) (a .1 .1 .1 .0) payload out)
+
+pub write-done : (κs : _) (a : _) (r : _) (s : _) → write.Post κs a r s
+    → Fit (now (a .0)) (now (a .1 .0)) (a .1 .1 .0) (a .1 .1 .1 .0) (length (now (a .1 .1 .1 .1 .1 .0))) (length (now (a .1 .1 .1 .1 .1 .1 .0))) → writeNumber r ≡ 0
+write-done κs a r s p f = ap writeNumber (p .0 ∙ fit-is-written (now (a .0)) (now (a .1 .0)) (a .1 .1 .0) (a .1 .1 .1 .0) (now (a .1 .1 .1 .1 .1 .0)) (now (a .1 .1 .1 .1 .1 .1 .0)) f)
+
+pub read-start-as-told : (κs : _) (a : _) (r : _) (s : _) → read-start.Post κs a r s → StartSays (now (a .0)) (now (a .1 .0)) (r .answer)
+read-start-as-told κs a r s p = subst (StartSays (now (a .0)) (now (a .1 .0))) (sym (ap (λ (x : ReadStarted). x .answer) p)) (start-says (now (a .0)) (now (a .1 .0)))
+
+pub read-start-done : (κs : _) (a : _) (r : _) (s : _) → read-start.Post κs a r s → KeyTaken (now (a .0)) → KeyTaken (now (a .1 .0)) → keyNumber (r .answer) ≡ 0
+read-start-done κs a r s p te tc = ap (λ (x : ReadStarted). keyNumber (x .answer)) p ∙ start-takes (now (a .0)) (now (a .1 .0)) te tc
+
+-- a start with a key that is not taken gives zeros
+pub read-start-refused-zeros : (κs : _) (a : _) (r : _) (s : _) → read-start.Post κs a r s → keyNumber (r .answer) ≡ 1
+    → r .reader ≡ record {
+      enc = record { words = replicate 60 0; rounds = 0 };
+      chk = record { words = replicate 60 0; rounds = 0 };
+      progress = record { next = 0; fixed = false; count = 0; release = 0 };
+    }
+read-start-refused-zeros κs a r s p e =
+    ap (λ (x : ReadStarted). x .reader) p ∙ refused-start-gives-zeros (now (a .0)) (now (a .1 .0)) (ap (λ (x : ReadStarted). keyNumber (x .answer)) (sym p) ∙ e)
+
+pub read-turn-as-told : (κs : _) (a : _) (r : _) (s : _) → read-turn.Post κs a r s → StopSays (a .0) (now (a .1 .0)) (a .1 .1 .0) (now (a .1 .1 .1 .0)) (r .stop)
+read-turn-as-told κs a r s p =
+    subst (StopSays (a .0) (now (a .1 .0)) (a .1 .1 .0) (now (a .1 .1 .1 .0))) (sym (ap (λ (x : Turn × List ℕ). x .0 .stop) p)) (turn-stop-as-told (a .0) (now (a .1 .0)) (a .1 .1 .0) (now (a .1 .1 .1 .0)))
+
+pub read-turn-done : (κs : _) (a : _) (r : _) (s : _) → read-turn.Post κs a r s → Fair (now (a .1 .0)) (a .1 .1 .0) (now (a .1 .1 .1 .0))
+    → AllMet (keysOf (a .0)) one (standing (a .0 .progress)) (handled (now (a .1 .0)) (a .1 .1 .0)) (given (now (a .1 .0)) (a .1 .1 .0)) → stopNumber (r .stop) ≡ 0
+read-turn-done κs a r s p f m = ap (λ (x : Turn × List ℕ). stopNumber (x .0 .stop)) p ∙ ap stopNumber (turn-ends (a .0) (now (a .1 .0)) (a .1 .1 .0) (now (a .1 .1 .1 .0)) f m)
+
+pub read-complete-as-told : (κs : _) (a : _) (r : _) (s : _) → read-complete.Post κs a r s → CompletionSays (a .0 .progress) r
+read-complete-as-told κs a r s p = subst (CompletionSays (a .0 .progress)) (sym p) (completion-as-told (a .0))
+
+pub read-complete-done : (κs : _) (a : _) (r : _) (s : _) → read-complete.Post κs a r s → a .0 .progress .fixed ≡ true → a .0 .progress .next ≡ a .0 .progress .count → completionNumber r ≡ 0
+read-complete-done κs a r s p f e = ap completionNumber (p ∙ completed (a .0) f e)
+
 -- ---- demands 2 and 3 for the calls: what `write` wrote, offered to `read_turn`
 
-written : (r : WriteAnswer) → writeNumber r ≡ 0 → r ≡ Written
-written Written e = refl
-written WriteKey e = absurd (omega arith)
-written WriteCount e = absurd (omega arith)
-written WriteNumber e = absurd (omega arith)
-written WriteLength e = absurd (omega arith)
-written WriteRoom e = absurd (omega arith)
-
-module _ (κs : _) (a : _) (r : _) (s : _) (p : write.Post κs a r s) (z : writeNumber r ≡ 0)
+module _ (κs : _) (a : _) (r : _) (s : _) (p : write.Post κs a r s)
+    (fit : Fit (now (a .0)) (now (a .1 .0)) (a .1 .1 .0) (a .1 .1 .1 .0) (length (now (a .1 .1 .1 .1 .1 .0))) (length (now (a .1 .1 .1 .1 .1 .1 .0))))
     (bytes : Bytes (now (a .1 .1 .1 .1 .1 .0))) (release : a .1 .1 .1 .1 .0 < 4294967296) where
   wrote : Wrote (now (a .0)) (now (a .1 .0)) (a .1 .1 .0) (a .1 .1 .1 .0) (a .1 .1 .1 .1 .0) (now (a .1 .1 .1 .1 .1 .0)) (take 512 (now (s .1 .1 .1 .1 .1 .1 .0)))
   wrote = record {
     out = now (a .1 .1 .1 .1 .1 .1 .0);
-    answer = sym (p .0) ∙ written r z;
+    answer = fit-is-written (now (a .0)) (now (a .1 .0)) (a .1 .1 .0) (a .1 .1 .1 .0) (now (a .1 .1 .1 .1 .1 .0)) (now (a .1 .1 .1 .1 .1 .1 .0)) fit;
     block = ap (take 512) (p .1 ∙ ap (λ (x : WriteAnswer). writeOutput x (now (a .0)) (now (a .1 .0)) (a .1 .1 .0) (a .1 .1 .1 .0) (a .1 .1 .1 .1 .0) (now (a .1 .1 .1 .1 .1 .0)) (now (a .1 .1 .1 .1 .1 .1 .0))) (p .0));
     payload-bytes = bytes;
     release-fits = release;
   }
 
-  -- a turn of a reader under the same keys, in a state that waits for this block
-  module _ (κs′ : _) (a′ : _) (r′ : _) (s′ : _) (q : read-turn.Post κs′ a′ r′ s′) (st : Progress) (reader : a′ .0 ≡ readerOf (now (a .0)) (now (a .1 .0)) st)
-      (low : 0 < a′ .1 .1 .0) (high : a′ .1 .1 .0 ≤ 128) (room : 480 ≤ length (now (a′ .1 .1 .1 .0))) where
-    -- accepts it, and hands out its payload and zero fill
-    pub write-then-read : now (a′ .1 .0) ≡ take 512 (now (s .1 .1 .1 .1 .1 .1 .0)) → Waits st (a .1 .1 .0) (a .1 .1 .1 .0) (a .1 .1 .1 .1 .0)
+  -- a turn of a reader under the same keys
+  module _ (κs′ : _) (a′ : _) (r′ : _) (s′ : _) (q : read-turn.Post κs′ a′ r′ s′) (st : Progress) (reader : a′ .0 ≡ readerOf (now (a .0)) (now (a .1 .0)) st) where
+    -- that waits for this block accepts it, and hands out its payload and zero fill
+    pub write-then-read : 0 < a′ .1 .1 .0 → a′ .1 .1 .0 ≤ 128 → 480 ≤ length (now (a′ .1 .1 .1 .0)) → now (a′ .1 .0) ≡ take 512 (now (s .1 .1 .1 .1 .1 .1 .0)) → Waits st (a .1 .1 .0) (a .1 .1 .1 .0) (a .1 .1 .1 .1 .0)
         → (r′ .accepted ≡ 1) × (r′ .bytes ≡ length (now (a .1 .1 .1 .1 .1 .0))) × (r′ .stop ≡ End)
         × (now (s′ .1 .1 .1 .0) ≡ over (filled (now (a .1 .1 .1 .1 .1 .0))) (now (a′ .1 .1 .1 .0)))
-    write-then-read lent waits =
+    write-then-read low high room lent waits =
         let e = q ∙ ap₂ (λ (x : Reader) (b : List ℕ). turnOf x b (a′ .1 .1 .0) (now (a′ .1 .1 .1 .0))) reader lent ∙ (written-is-read (now (a .0)) (now (a .1 .0)) (a .1 .1 .0) (a .1 .1 .1 .0) (a .1 .1 .1 .1 .0) (now (a .1 .1 .1 .1 .1 .0)) (take 512 (now (s .1 .1 .1 .1 .1 .1 .0))) wrote st waits (a′ .1 .1 .0) (now (a′ .1 .1 .1 .0)) low high room) in (
           ap (λ (x : Turn × List ℕ). x .0 .accepted) e,
           ap (λ (x : Turn × List ℕ). x .0 .bytes) e,
@@ -158,14 +285,18 @@ module _ (κs : _) (a : _) (r : _) (s : _) (p : write.Post κs a r s) (z : write
           ap (λ (x : Turn × List ℕ). x .1) e,
         )
 
-    -- refuses it damaged inside one 16-byte piece, or inside its check, in any state, and changes nothing
-    pub damage-is-refused : (i : ℕ) → Octets 512 (now (a′ .1 .0)) → SameOutside i (now (a′ .1 .0)) (take 512 (now (s .1 .1 .1 .1 .1 .1 .0)))
-        → (now (a′ .1 .0) ≡ take 512 (now (s .1 .1 .1 .1 .1 .1 .0)) → ⊥)
-        → (r′ .stop ≡ At 0 (choose (done st) AfterLast CheckWrong)) × (r′ .accepted ≡ 0) × (r′ .reader ≡ a′ .0) × (now (s′ .1 .1 .1 .0) ≡ now (a′ .1 .1 .1 .0))
-    damage-is-refused i octets same differ =
-        let e = q ∙ ap (λ (x : Reader). turnOf x (now (a′ .1 .0)) (a′ .1 .1 .0) (now (a′ .1 .1 .1 .0))) reader ∙ (damaged-changes-nothing (now (a .0)) (now (a .1 .0)) (a .1 .1 .0) (a .1 .1 .1 .0) (a .1 .1 .1 .1 .0) (now (a .1 .1 .1 .1 .1 .0)) (take 512 (now (s .1 .1 .1 .1 .1 .1 .0))) wrote i (now (a′ .1 .0)) octets same differ st (a′ .1 .1 .0) (now (a′ .1 .1 .1 .0)) low high room) in (
-          ap (λ (x : Turn × List ℕ). x .0 .stop) e,
-          ap (λ (x : Turn × List ℕ). x .0 .accepted) e,
-          ap (λ (x : Turn × List ℕ). x .0 .reader) e ∙ sym reader,
-          ap (λ (x : Turn × List ℕ). x .1) e,
-        )
+    -- that has the block damaged inside one 16-byte piece, or inside its check, at any place of what it handles accepts no more than the
+    -- blocks before it; where it accepts those, it stops there by 14, or by 16 if they completed the image; and nothing of it is handed out
+    pub damage-is-refused : (i : ℕ) (d : List ℕ) → Octets 512 d → SameOutside i d (take 512 (now (s .1 .1 .1 .1 .1 .1 .0))) → (d ≡ take 512 (now (s .1 .1 .1 .1 .1 .1 .0)) → ⊥)
+        → Bytes (now (a′ .1 .0)) → Fair (now (a′ .1 .0)) (a′ .1 .1 .0) (now (a′ .1 .1 .1 .0))
+        → (place : ℕ) → place < handled (now (a′ .1 .0)) (a′ .1 .1 .0) → getD (given (now (a′ .1 .0)) (a′ .1 .1 .0)) place [] ≡ d
+        → (r′ .accepted ≤ place)
+        × (r′ .accepted ≡ place → r′ .stop ≡ At place (choose (done (r′ .reader .progress)) AfterLast CheckWrong))
+        × (drop (480 * place) (now (s′ .1 .1 .1 .0)) ≡ drop (480 * place) (now (a′ .1 .1 .1 .0)))
+    damage-is-refused i d octets same differ lent fair place below at =
+        subst
+        (λ (t : Turn × List ℕ). (t .0 .accepted ≤ place) × (t .0 .accepted ≡ place → t .0 .stop ≡ At place (choose (done (t .0 .reader .progress)) AfterLast CheckWrong))
+        × (drop (480 * place) (t .1) ≡ drop (480 * place) (now (a′ .1 .1 .1 .0))))
+        (sym (q ∙ ap (λ (x : Reader). turnOf x (now (a′ .1 .0)) (a′ .1 .1 .0) (now (a′ .1 .1 .1 .0))) reader))
+        (damaged-ends-a-turn (now (a .0)) (now (a .1 .0)) (a .1 .1 .0) (a .1 .1 .1 .0) (a .1 .1 .1 .1 .0) (now (a .1 .1 .1 .1 .1 .0)) (take 512 (now (s .1 .1 .1 .1 .1 .1 .0))) wrote i d octets same differ st
+        (now (a′ .1 .0)) (a′ .1 .1 .0) (now (a′ .1 .1 .1 .0)) lent fair place below at)

@@ -16,18 +16,19 @@ use Rattle.header.specs.declared.Head.{Head}
 use Rattle.header.specs.declared.Progress.{Progress}
 use Rattle.header.specs.declared.Verdict.the-variants.{Accepted}
 use Rattle.header.proofs.Laws.{Wide}
-use Rattle.image.specs.Sealed.{filled, sealed, opened}
-use Rattle.image.specs.Judge.{Keys, judge}
+use Rattle.format.specs.Edition.{one, noCheck}
+use Rattle.format.specs.Sealed.{filled, headFor, blockFor, opened}
+use Rattle.format.specs.Judge.{Keys, Standing, standing, judge, ofEdition}
 use Rattle.image.specs.Turn.{Reading, ran}
-use Rattle.image.specs.Calls.{headFor, startOf, keysOf, handled, turned, readingOf}
+use Rattle.image.specs.Calls.{keysOf, handled, turned, readingOf}
 use Rattle.image.specs.declared.Reader.{Reader}
 use Rattle.image.specs.declared.Stop.the-variants.{End}
 use Rattle.image.specs.declared.Turn.{Turn}
-use Rattle.promises.proofs.ImageTerms.{unchecked, Blocks, payload, plains, parts, lengths, AllFilled, partsIn, Fit, Wrote, readerOf, Waits, FromStart, given, Lending, AllFair, offered, readerAfter, AllAccepted, handedOut, counted, started, turn}
+use Rattle.promises.proofs.ImageTerms.{unchecked, Blocks, payload, plains, parts, lengths, AllFilled, partsIn, Fit, Wrote, readerOf, Waits, FromStart, Sound, given, Lending, AllFair, offered, readerAfter, AllAccepted, handedOut, counted, started, turn}
 use Rattle.promises.proofs.ImageSealed.{sealed-size, sealed-opened, sealed-head}
 use Rattle.promises.proofs.ImageJudge.{sealed-accepted, damaged-refused}
 use Rattle.promises.proofs.ImageTurn.{ran-met, ran-out, met-filled, parts-in, ran-bytes, parts-length}
-use Rattle.promises.proofs.ImageSound.{Reached, start, ran-reached}
+use Rattle.promises.proofs.ImageSound.{begun-sound, ran-sound}
 use Rattle.promises.proofs.ImageWhole.{Passes, passes-front}
 use Rattle.promises.proofs.ImageCalls.{keysUnder, start-fresh, fresh-start, written-fit, small, output-block, block-wide, cut-length, fair-turn, by-turn}
 
@@ -35,7 +36,7 @@ use Rattle.promises.proofs.ImageCalls.{keysUnder, start-fresh, fresh-st
 
 module _ (ekey ckey : List ℕ) (number count release : ℕ) (payload b : List ℕ) (w : Wrote ekey ckey number count release payload b) where
   abbrev head : Head
-  head = headFor number count release (length payload)
+  head = headFor one number count release (length payload)
 
   fit : Fit ekey ckey number count (length payload) (length (w .out))
   fit = written-fit ekey ckey number count payload (w .out) (w .answer)
@@ -52,7 +53,7 @@ module _ (ekey ckey : List ℕ) (number count release : ℕ) (payload b : List �
   wide : Wide head
   wide = block-wide ekey ckey number count release payload (w .out) (w .payload-bytes) (w .answer) (w .release-fits)
 
-  is-sealed : b ≡ sealed (aesOf ekey) (aesOf ckey) [] head payload
+  is-sealed : b ≡ blockFor one (aesOf ekey) (aesOf ckey) noCheck number count release payload
   is-sealed = w .block ∙ rw (w .answer) (output-block ekey ckey number count release payload (w .out) (w .payload-bytes) (w .answer))
 
   none : Bytes []
@@ -70,10 +71,10 @@ module _ (ekey ckey : List ℕ) (number count release : ℕ) (payload b : List �
   pub keys-are : (s : Progress) → keysOf (readerOf ekey ckey s) ≡ keysUnder ekey ckey
   keys-are s = start-fresh ekey ckey (fit .ekey-taken) (fit .ckey-taken) .1
 
-  pub accepts : (s : Progress) → Waits s number count release → judge (keysOf (readerOf ekey ckey s)) s b ≡ Accepted
+  pub accepts : (s : Progress) → Waits s number count release → judge (keysOf (readerOf ekey ckey s)) one (standing s) b ≡ Accepted
   accepts s a =
-      ap₂ (λ (k : Keys) (x : List ℕ). judge k s x) (keys-are s) is-sealed
-      ∙ sealed-accepted (aesOf ekey) (aesOf ckey) lawful-enc lawful-chk s head payload (w .payload-bytes) refl wide
+      ap₂ (λ (k : Keys) (x : List ℕ). judge k one (standing s) x) (keys-are s) is-sealed
+      ∙ sealed-accepted (aesOf ekey) (aesOf ckey) lawful-enc lawful-chk one (standing s) head payload none (w .payload-bytes) refl wide
       (record {
         count-low = fit .count-low;
         count-high = fit .count-high;
@@ -82,13 +83,13 @@ module _ (ekey ckey : List ℕ) (number count release : ℕ) (payload b : List �
         same-release = a .same-release;
         below = fit .below;
         len-fits = fit .len-fits;
-        reserved-zero = refl;
+        marked = refl;
       })
 
-  pub refuses : (i : ℕ) (d : List ℕ) → Octets 512 d → SameOutside i d b → (d ≡ b → ⊥) → (s : Progress) → judge (keysOf (readerOf ekey ckey s)) s d ≡ unchecked s
-  refuses i d o q n s =
-      ap (λ (k : Keys). judge k s d) (keys-are s)
-      ∙ damaged-refused (aesOf ekey) (aesOf ckey) lawful-enc lawful-chk true s head payload few (w .payload-bytes) i d (o .size) (o .bytes)
+  pub refuses : (i : ℕ) (d : List ℕ) → Octets 512 d → SameOutside i d b → (d ≡ b → ⊥) → (s : Progress) (t : Standing) → judge (keysOf (readerOf ekey ckey s)) one t d ≡ unchecked (t .progress)
+  refuses i d o q n s t =
+      ap (λ (k : Keys). judge k one t d) (keys-are s)
+      ∙ damaged-refused (aesOf ekey) (aesOf ckey) lawful-enc lawful-chk one true t head payload none few (w .payload-bytes) i d (o .size) (o .bytes)
       (subst (λ (x : List ℕ). SameOutside i d x) is-sealed q) (λ e. n (e ∙ sym is-sealed))
 
 -- ---- many turns
@@ -105,21 +106,30 @@ parts-join : (ek : BlockCipher) (bs cs : List (List ℕ)) → parts ek (bs ++ cs
 parts-join ek [] cs = refl
 parts-join ek (b ∷ bs) cs = ap (payload ek b ++_) (parts-join ek bs cs) ∙ sym (append-assoc (payload ek b) (parts ek bs) (parts ek cs))
 
-pub turns-read : (k : Keys) → Lawful 16 (k .enc) → (r : Reader) → keysOf r ≡ k → (ls : List Lending) → AllFair ls → Blocks (offered ls) → Passes k (r .progress) (offered ls)
+-- edition 1 asks nothing of the check before, so a turn may begin without it
+passes-on : (k : Keys) (s : Standing) (bs : List (List ℕ)) → Passes k one s bs → Passes k one (standing (s .progress)) bs
+unfolding judge
+passes-on k s [] p = p
+passes-on k s (b ∷ bs) p = p
+
+pub turns-read : (k : Keys) → Lawful 16 (k .enc) → (r : Reader) → keysOf r ≡ k → (ls : List Lending) → AllFair ls → Blocks (offered ls) → Passes k one (standing (r .progress)) (offered ls)
     → AllAccepted r ls × (done (readerAfter r ls .progress) ≡ true) × (handedOut r ls ≡ parts (k .enc) (offered ls)) × (counted r ls ≡ length (parts (k .enc) (offered ls)))
 turns-read k lk r e [] f w p = (tt, p, refl, refl)
 turns-read k lk r e (l ∷ ls) f w p =
     let bs = given (l .lent) (l .asked) in
+    let d = ofEdition k one in
+    let s = standing (r .progress) in
     let R = readingOf r (l .lent) (l .asked) in
     let t = fair-turn r (l .lent) (l .asked) (l .out) (f .0) in
     let wb = blocks-split bs (offered ls) w in
-    let er : R ≡ ran k (r .progress) bs = ap (λ (x : Keys). ran x (r .progress) bs) e in
-    let pf = passes-front k (r .progress) bs (offered ls) p in
-    let all : take (ran k (r .progress) bs .accepted) bs ≡ bs = ap (λ (n : ℕ). take n bs) (pf .1) ∙ take-whole bs in
-    let full : AllFilled (k .enc) bs = subst (AllFilled (k .enc)) all (met-filled k lk (r .progress) (ran k (r .progress) bs .accepted) bs (wb .0) (ran-met k (r .progress) bs)) in
-    let o : R .out ≡ plains (k .enc) bs = ap (λ (x : Reading). x .out) er ∙ ran-out k (r .progress) bs ∙ ap (plains (k .enc)) all in
-    let n : R .bytes ≡ length (parts (k .enc) bs) = ap (λ (x : Reading). x .bytes) er ∙ ran-bytes k (r .progress) bs ∙ ap lengths all ∙ sym (parts-length (k .enc) bs full) in
-    let ih = turns-read k lk (turned r R .reader) e ls (f .1) (wb .1) (subst (λ (x : Reading). Passes k (x .progress) (offered ls)) (sym er) (pf .2)) in
+    let er : R ≡ ran d s bs = ap (λ (x : Keys). ran (ofEdition x one) s bs) e in
+    let pf = passes-front k one s bs (offered ls) p in
+    let all : take (ran d s bs .accepted) bs ≡ bs = ap (λ (n : ℕ). take n bs) (pf .1) ∙ take-whole bs in
+    let full : AllFilled (k .enc) bs = subst (AllFilled (k .enc)) all (met-filled k one lk s (ran d s bs .accepted) bs (wb .0) (ran-met k one s bs)) in
+    let o : R .out ≡ plains (k .enc) bs = ap (λ (x : Reading). x .out) er ∙ ran-out k one s bs ∙ ap (plains (k .enc)) all in
+    let n : R .bytes ≡ length (parts (k .enc) bs) = ap (λ (x : Reading). x .bytes) er ∙ ran-bytes d s bs ∙ ap lengths all ∙ sym (parts-length (k .enc) bs full) in
+    let ih = turns-read k lk (turned r R .reader) e ls (f .1) (wb .1)
+    (subst (λ (x : Reading). Passes k one (standing (x .standing .progress)) (offered ls)) (sym er) (passes-on k (ran d s bs .standing) (offered ls) (pf .2))) in
     let h : partsIn bs (over (R .out) (l .out)) ≡ parts (k .enc) bs =
     ap (λ (x : List ℕ). partsIn bs (over x (l .out))) o ∙ parts-in (k .enc) lk bs (drop (length (plains (k .enc) bs)) (l .out)) (wb .0) full in
     subst
@@ -136,9 +146,9 @@ turns-read k lk r e (l ∷ ls) f w p =
 
 -- ---- the states that a start and turns make
 
-pub from-reached : (ekey ckey : List ℕ) (r : Reader) → FromStart ekey ckey r → Reached (keysOf r) (r .progress)
-from-reached ekey ckey r started = subst (Reached (keysOf (startOf ekey ckey .reader))) (sym (fresh-start ekey ckey)) start
-from-reached ekey ckey r (turn {r = q} f lent asked out) =
-    let ih = from-reached ekey ckey q f in
-    by-turn q lent asked out (λ (t : Turn × List ℕ). Reached (keysOf (t .0 .reader)) (t .0 .reader .progress))
-    ih ih ih (λ g. ran-reached (keysOf q) (q .progress) (given lent asked) ih)
+pub from-sound : (ekey ckey : List ℕ) (r : Reader) → FromStart ekey ckey r → Sound (r .progress)
+from-sound ekey ckey r started = subst Sound (sym (fresh-start ekey ckey)) begun-sound
+from-sound ekey ckey r (turn {r = q} f lent asked out) =
+    let ih = from-sound ekey ckey q f in
+    by-turn q lent asked out (λ (t : Turn × List ℕ). Sound (t .0 .reader .progress))
+    ih ih ih (λ g. ran-sound (keysOf q) one (standing (q .progress)) (given lent asked) ih)

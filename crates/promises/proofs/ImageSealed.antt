@@ -5,15 +5,16 @@ use mathlib.Core.Logic.{⊎-elim}
 use mathlib.Core.List.{List, [], _∷_, _++_, append-assoc}
 use Prim.Native.Nat.{ℕ, zero, suc, _+_, _-_, _%_, _≤_, _<_}
 use native.Mathlib.Omega.{arith}
-use borrow.Author.Tests.{eqb-true, eq-eqb}
+use borrow.Author.Tests.{eqb-true}
 use lib.Dec.{eqb}
 use lib.ListN.{length, getD, take, drop, replicate, length-take, length-drop, length-append, take-append-drop, List·getD-append}
 use lib.Seq.{take-at, drop-at, length-take-le, ext-getD, getD-take, getD-drop, getD-append-add}
-use Rattle.octets.specs.Octets.{padTo, Bytes, Octets, same}
+use Rattle.octets.specs.Octets.{padTo, Bytes, Octets}
 use Rattle.octets.specs.Blocks.{BlockCipher, Lawful}
 use Rattle.octets.proofs.Xor.{lt-or-le}
 use Rattle.octets.proofs.Fill.{getD-padTo, length-padTo}
 use Rattle.octets.proofs.Blocks.{take-bytes, append-bytes}
+use Rattle.blocks.proofs.Laws.{same-true, same-refl}
 use Rattle.sp800_38a.specs.Modes.{moded}
 use Rattle.sp800_38a.specs.declared.Operation.the-variants.{CbcEncrypt, CbcDecrypt}
 use Rattle.sp800_38a.proofs.Sixteen.{length-16, undone-16, bytes-16}
@@ -22,26 +23,9 @@ use Rattle.sp800_38b.proofs.OnePiece.{cmac-octets, one-piece}
 use Rattle.header.specs.Layout.{headOf, headBytes}
 use Rattle.header.specs.declared.Head.{Head}
 use Rattle.header.proofs.Laws.{Wide, head-of, head-octets}
-use Rattle.image.specs.Sealed.{filled, front, covered, sealed, opened, checks, allZero, fillZero}
+use Rattle.format.specs.Sealed.{filled, front, covered, sealed, opened, checks, allZero, zeroAfter, fillZero}
 
--- ---- tests on lists
-
-pub same-true : (a b : List ℕ) → same a b ≡ true → a ≡ b
-same-true [] [] e = refl
-same-true [] (y ∷ b) e = let z : _≡_ {A = ℕ} 0 1 = cc in absurd (omega arith)
-same-true (x ∷ a) [] e = let z : _≡_ {A = ℕ} 0 1 = cc in absurd (omega arith)
-same-true (x ∷ a) (y ∷ b) e = go (eqb x y) refl e (same-true a b)
-  where
-    go : (t : Bool) → eqb x y ≡ t → (t && same a b) ≡ true → (same a b ≡ true → a ≡ b) → x ∷ a ≡ y ∷ b
-    go true f g r = ap₂ _∷_ (eqb-true x y f) (r g)
-    go false f g r = let z : _≡_ {A = ℕ} 0 1 = cc in absurd (omega arith)
-
-same-eq : (a b : List ℕ) → a ≡ b → same a b ≡ true
-same-eq a b e = rw e (go b)
-  where
-    go : (a : List ℕ) → same a a ≡ true
-    go [] = refl
-    go (x ∷ a) = rw (eq-eqb x x refl) (go a)
+-- ---- zeros
 
 zeros-zero : (n : ℕ) → allZero (replicate n 0) ≡ true
 zeros-zero zero = refl
@@ -110,35 +94,35 @@ module _ (ek ck : BlockCipher) (le : Lawful 16 ek) (lc : Lawful 16 ck) (h : Head
     check-octets : Octets 16 (cmac ck (covered (front ek h p) tail))
     check-octets = cmac-octets ck (lc .enc-block) (front ek h p ++ tail) (append-bytes (front ek h p) tail front-bytes bt)
 
-    sealed-front : take 496 (sealed ek ck tail h p) ≡ front ek h p
+    sealed-front : take 496 (sealed ek (cmac ck) tail h p) ≡ front ek h p
     unfolding sealed
     sealed-front = take-at (front ek h p) (cmac ck (front ek h p ++ tail)) 496 front-size
 
-    sealed-check : drop 496 (sealed ek ck tail h p) ≡ cmac ck (covered (front ek h p) tail)
+    sealed-check : drop 496 (sealed ek (cmac ck) tail h p) ≡ cmac ck (covered (front ek h p) tail)
     unfolding sealed
     sealed-check = drop-at (front ek h p) (cmac ck (front ek h p ++ tail)) 496 front-size
 
-    pub sealed-size : length (sealed ek ck tail h p) ≡ 512
+    pub sealed-size : length (sealed ek (cmac ck) tail h p) ≡ 512
     unfolding sealed
     sealed-size = length-append (front ek h p) (cmac ck (front ek h p ++ tail)) ∙ omega (arith, front-size, check-octets .size)
 
-    pub sealed-bytes : Bytes (sealed ek ck tail h p)
+    pub sealed-bytes : Bytes (sealed ek (cmac ck) tail h p)
     unfolding sealed
     sealed-bytes = append-bytes (front ek h p) (cmac ck (front ek h p ++ tail)) front-bytes (check-octets .bytes)
 
-    sealed-mac : cmac ck (covered (take 496 (sealed ek ck tail h p)) tail) ≡ drop 496 (sealed ek ck tail h p)
+    sealed-mac : cmac ck (covered (take 496 (sealed ek (cmac ck) tail h p)) tail) ≡ drop 496 (sealed ek (cmac ck) tail h p)
     sealed-mac = ap (λ (x : List ℕ). cmac ck (x ++ tail)) sealed-front ∙ sym sealed-check
 
     -- its check is right
-    pub sealed-checks : checks ck tail (sealed ek ck tail h p) ≡ true
+    pub sealed-checks : checks (cmac ck) tail (sealed ek (cmac ck) tail h p) ≡ true
     unfolding checks
-    sealed-checks = same-eq (cmac ck (take 496 (sealed ek ck tail h p) ++ tail)) (drop 496 (sealed ek ck tail h p)) sealed-mac
+    sealed-checks = rw sealed-mac (same-refl (drop 496 (sealed ek (cmac ck) tail h p)))
 
     -- its 480 decrypted bytes are payload and fill
-    pub sealed-opened : opened ek (sealed ek ck tail h p) ≡ filled p
+    pub sealed-opened : opened ek (sealed ek (cmac ck) tail h p) ≡ filled p
     unfolding opened sealed front body iv
     sealed-opened =
-        let z = sealed ek ck tail h p in
+        let z = sealed ek (cmac ck) tail h p in
         let c = cmac ck (front ek h p ++ tail) in
         let e : z ≡ headBytes h ++ (body ++ c) = append-assoc (headBytes h) body c in
         let t : take 16 z ≡ headBytes h = ap (take 16) e ∙ take-at (headBytes h) (body ++ c) 16 (head-octets h .size) in
@@ -146,15 +130,15 @@ module _ (ek ck : BlockCipher) (le : Lawful 16 ek) (lc : Lawful 16 ck) (h : Head
         ap₂ (λ (x y : List ℕ). moded 16 ek CbcDecrypt (ek .enc x) y) t d ∙ undone-16 ek le CbcEncrypt iv (filled p) iv-octets (filled-bytes p bp) whole-pieces
 
     -- its header reads back
-    pub sealed-head : Wide h → headOf (sealed ek ck tail h p) ≡ h
+    pub sealed-head : Wide h → headOf (sealed ek (cmac ck) tail h p) ≡ h
     unfolding sealed front
     sealed-head w =
         ap headOf (append-assoc (headBytes h) (moded 16 ek CbcEncrypt (ek .enc (headBytes h)) (filled p)) (cmac ck (front ek h p ++ tail)))
         ∙ head-of h (moded 16 ek CbcEncrypt (ek .enc (headBytes h)) (filled p) ++ cmac ck (front ek h p ++ tail)) w
 
     -- and what follows the payload is zero
-    pub sealed-fill : Wide h → length p ≡ h .len → fillZero ek (sealed ek ck tail h p) ≡ true
-    unfolding fillZero
+    pub sealed-fill : Wide h → length p ≡ h .len → fillZero ek (sealed ek (cmac ck) tail h p) ≡ true
+    unfolding zeroAfter
     sealed-fill w e =
         ap₂ (λ (n : ℕ) (x : List ℕ). allZero (drop n x)) (ap (λ (x : Head). x .len) (sealed-head w)) sealed-opened
         ∙ filled-zero p (h .len) e
@@ -191,7 +175,7 @@ module _ (i : ℕ) (a b tail : List ℕ) (la : length a ≡ 512) (lb : length b 
       ⊎-elim (λ h. low a k la h ∙ o k n ∙ sym (low b k lb h)) (λ h. high a k la h ∙ sym (high b k lb h)) (lt-or-le k 496)
 
   -- two blocks with right checks that are the same outside one piece are the same; the check is piece 31
-  pub same-block : (ck : BlockCipher) → Lawful 16 ck → Bytes a → Bytes b → Bytes tail → checks ck tail a ≡ true → checks ck tail b ≡ true → a ≡ b
+  pub same-block : (ck : BlockCipher) → Lawful 16 ck → Bytes a → Bytes b → Bytes tail → checks (cmac ck) tail a ≡ true → checks (cmac ck) tail b ≡ true → a ≡ b
   unfolding checks
   same-block ck l ba bb bt ca cb = ⊎-elim inside outside (lt-or-le i 31)
     where

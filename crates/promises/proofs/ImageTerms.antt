@@ -3,34 +3,45 @@ use mathlib.Core.Path.{_≡_}
 use mathlib.Core.Bool.{true, false, _&&_}
 use mathlib.Core.List.{List, [], _∷_, _++_}
 use Prim.Native.Nat.{ℕ, zero, suc, _+_, _*_, _/_, _%_, _≤_, _<_, max}
-use lib.ListN.{length, take, drop}
-use Rattle.octets.specs.Octets.{choose, Bytes, Octets}
+use lib.ListN.{length, getD, take, drop}
+use Rattle.octets.specs.Octets.{choose, Bytes, Octets, joined}
 use Rattle.octets.specs.Blocks.{BlockCipher}
-use Rattle.sbox.specs.Sbox.{sBox}
-use Rattle.schedule.specs.Schedule.{scheduleOf, keyNumber}
-use Rattle.octets.specs.Octets.{joined}
+use Rattle.schedule.specs.declared.KeyAnswer.{KeyAnswer}
+use Rattle.schedule.specs.declared.KeyAnswer.the-variants.{Taken, KeyLength}
 use Rattle.header.specs.Layout.{headOf}
 use Rattle.header.specs.Rules.{done, lengthFits}
 use Rattle.header.specs.declared.Head.{Head}
 use Rattle.header.specs.declared.Progress.{Progress}
+use Rattle.header.specs.declared.Reason.{Reason}
 use Rattle.header.specs.declared.Reason.the-variants.{AfterLast, CheckWrong, Count, Number, OtherCount, OtherRelease, NotBelow, Length, Reserved, FillNotZero}
 use Rattle.header.specs.declared.Verdict.{Verdict}
 use Rattle.header.specs.declared.Verdict.the-variants.{Accepted, Refused}
-use Rattle.image.specs.Sealed.{filled, sealed, opened, checks, fillZero}
-use Rattle.image.specs.Judge.{Keys, taken}
+use Rattle.format.specs.Edition.{Edition, one, noCheck}
+use Rattle.format.specs.Sealed.{filled, blockFor, opened, checks, fillZero}
+use Rattle.format.specs.Judge.{Keys, Standing, standing, taken}
 use Rattle.image.specs.Turn.{Reading, cut}
-use Rattle.image.specs.Calls.{writeAnswer, headFor, writeOutput, startOf, handled, turnOf}
+use Rattle.image.specs.Calls.{writeAnswer, writeOutput, startOf, keysOf, handled, turnOf}
 use Rattle.image.specs.declared.WriteAnswer.{WriteAnswer}
 use Rattle.image.specs.declared.WriteAnswer.the-variants.{Written, WriteKey, WriteCount, WriteNumber, WriteLength, WriteRoom}
 use Rattle.image.specs.declared.Reader.{Reader}
 use Rattle.image.specs.declared.Stop.{Stop}
 use Rattle.image.specs.declared.Stop.the-variants.{End, Asked, Lent, Room, At}
 use Rattle.image.specs.declared.Turn.{Turn}
+use Rattle.image.specs.declared.Completion.{Completion}
+use Rattle.image.specs.declared.Completion.the-variants.{Complete, NotComplete}
+pub use Rattle.promises.proofs.Keys.{KeyTaken}
+
+-- ---- editions
+
+-- an edition whose mark fits its place, and whose tail is bytes where the check before is
+pub record Proper (ed : Edition) : Type 0 where
+  pub mark-wide : ed .mark < 65536
+  pub tail-bytes : (x : List ℕ) → Octets 16 x → Bytes (ed .tail x)
 
 -- ---- the verdict on a block
 
--- what the tests ask of a header
-pub record Right (s : Progress) (h : Head) : Type 0 where
+-- what the tests ask of a header in an edition with this mark
+pub record Right (mark : ℕ) (s : Progress) (h : Head) : Type 0 where
   pub count-low : 0 < h .count
   pub count-high : h .count ≤ 65535
   pub expected : h .number ≡ s .next
@@ -38,39 +49,55 @@ pub record Right (s : Progress) (h : Head) : Type 0 where
   pub same-release : s .fixed ≡ true → h .release ≡ s .release
   pub below : h .number < h .count
   pub len-fits : lengthFits (h .number) (h .count) (h .len) ≡ true
-  pub reserved-zero : h .reserved ≡ 0
+  pub marked : h .reserved ≡ mark
 
 -- a block meets every test
-pub record Met (k : Keys) (s : Progress) (b : List ℕ) : Type 0 where
+pub record Met (k : Keys) (ed : Edition) (s : Standing) (b : List ℕ) : Type 0 where
   pub usable-keys : k .usable ≡ true
-  pub check-right : checks (k .chk) [] b ≡ true
-  pub head-right : Right s (headOf b)
+  pub check-right : checks (k .mac) (ed .tail (s .last)) b ≡ true
+  pub head-right : Right (ed .mark) (s .progress) (headOf b)
   pub fill-zero : fillZero (k .enc) b ≡ true
 
--- what each verdict says of a block: accepted, that it meets every test; refused, that the table's row for the reason holds, and that the
--- value held is the one found
-abbrev pub Says : Keys → Progress → List ℕ → Verdict → Type 0
-Says k s b Accepted = Met k s b
-Says k s b (Refused AfterLast) = done s ≡ true
-Says k s b (Refused CheckWrong) = (k .usable && checks (k .chk) [] b) ≡ false
-Says k s b (Refused (Count v)) = (v ≡ headOf b .count) × (0 < v → v ≤ 65535 → ⊥)
-Says k s b (Refused (Number v)) = (v ≡ headOf b .number) × (v ≡ s .next → ⊥)
-Says k s b (Refused (OtherCount v)) = (v ≡ headOf b .count) × (s .fixed ≡ true) × (v ≡ s .count → ⊥)
-Says k s b (Refused (OtherRelease v)) = (v ≡ headOf b .release) × (s .fixed ≡ true) × (v ≡ s .release → ⊥)
-Says k s b (Refused (NotBelow v)) = (v ≡ headOf b .number) × (headOf b .count ≤ v)
-Says k s b (Refused (Length v)) = (v ≡ headOf b .len) × (lengthFits (headOf b .number) (headOf b .count) v ≡ false)
-Says k s b (Refused (Reserved v)) = (v ≡ headOf b .reserved) × (v ≡ 0 → ⊥)
-Says k s b (Refused FillNotZero) = fillZero (k .enc) b ≡ false
+-- the table's row for a reason: when it is given, and that the value held is the one found
+abbrev pub Row : Keys → Edition → Standing → List ℕ → Reason → Type 0
+Row k ed s b AfterLast = done (s .progress) ≡ true
+Row k ed s b CheckWrong = (k .usable && checks (k .mac) (ed .tail (s .last)) b) ≡ false
+Row k ed s b (Count v) = (v ≡ headOf b .count) × (0 < v → v ≤ 65535 → ⊥)
+Row k ed s b (Number v) = (v ≡ headOf b .number) × (v ≡ s .progress .next → ⊥)
+Row k ed s b (OtherCount v) = (v ≡ headOf b .count) × (s .progress .fixed ≡ true) × (v ≡ s .progress .count → ⊥)
+Row k ed s b (OtherRelease v) = (v ≡ headOf b .release) × (s .progress .fixed ≡ true) × (v ≡ s .progress .release → ⊥)
+Row k ed s b (NotBelow v) = (v ≡ headOf b .number) × (headOf b .count ≤ v)
+Row k ed s b (Length v) = (v ≡ headOf b .len) × (lengthFits (headOf b .number) (headOf b .count) v ≡ false)
+Row k ed s b (Reserved v) = (v ≡ headOf b .reserved) × (v ≡ ed .mark → ⊥)
+Row k ed s b FillNotZero = fillZero (k .enc) b ≡ false
+
+-- the order in which the rows are asked: 16, 14, 7, 8, 9, 10, 11, 12, 13, 15
+abbrev pub rank : Reason → ℕ
+rank AfterLast = 0
+rank CheckWrong = 1
+rank (Count v) = 2
+rank (Number v) = 3
+rank (OtherCount v) = 4
+rank (OtherRelease v) = 5
+rank (NotBelow v) = 6
+rank (Length v) = 7
+rank (Reserved v) = 8
+rank FillNotZero = 9
+
+-- what each verdict says of a block: accepted, that it meets every test; refused, that the row for the reason holds, and no row asked before it
+abbrev pub Says : Keys → Edition → Standing → List ℕ → Verdict → Type 0
+Says k ed s b Accepted = Met k ed s b
+Says k ed s b (Refused r) = Row k ed s b r × ((q : Reason) → rank q < rank r → Row k ed s b q → ⊥)
 
 -- refused by 16 where the image is complete, else by 14
 abbrev pub unchecked : Progress → Verdict
 unchecked s = choose (done s) (Refused AfterLast) (Refused CheckWrong)
 
--- the first n blocks meet every test, each in the state after those before it
-abbrev pub AllMet : Keys → Progress → ℕ → List (List ℕ) → Type 0
-AllMet k s zero bs = Unit {0}
-AllMet k s (suc n) [] = ⊥
-AllMet k s (suc n) (b ∷ bs) = Met k s b × AllMet k (taken s (headOf b)) n bs
+-- the first n blocks meet every test, each where the reader stands after those before it
+abbrev pub AllMet : Keys → Edition → Standing → ℕ → List (List ℕ) → Type 0
+AllMet k ed s zero bs = Unit {0}
+AllMet k ed s (suc n) [] = ⊥
+AllMet k ed s (suc n) (b ∷ bs) = Met k ed s b × AllMet k ed (taken s b) n bs
 
 -- ---- blocks and what they hold
 
@@ -109,10 +136,6 @@ partsIn (b ∷ bs) out = take (headOf b .len) out ++ partsIn bs (drop 480 out)
 
 -- ---- the writer
 
--- a key of 16, 24 or 32 bytes
-abbrev pub KeyTaken : List ℕ → Type 0
-KeyTaken key = keyNumber (scheduleOf sBox key .answer) ≡ 0
-
 -- what the writer asks
 pub record Fit (ekey ckey : List ℕ) (number count len room : ℕ) : Type 0 where
   pub ekey-taken : KeyTaken ekey
@@ -123,14 +146,14 @@ pub record Fit (ekey ckey : List ℕ) (number count len room : ℕ) : Type 0 whe
   pub len-fits : lengthFits number count len ≡ true
   pub roomy : 512 ≤ room
 
--- what each of its answers says
+-- what each of its answers says: the first test that fails is the one told
 abbrev pub WriteSays : (ekey ckey : List ℕ) (number count len room : ℕ) → WriteAnswer → Type 0
 WriteSays ekey ckey number count len room Written = Fit ekey ckey number count len room
 WriteSays ekey ckey number count len room WriteKey = KeyTaken ekey → KeyTaken ckey → ⊥
-WriteSays ekey ckey number count len room WriteCount = 0 < count → count ≤ 65535 → ⊥
-WriteSays ekey ckey number count len room WriteNumber = count ≤ number
-WriteSays ekey ckey number count len room WriteLength = lengthFits number count len ≡ false
-WriteSays ekey ckey number count len room WriteRoom = room < 512
+WriteSays ekey ckey number count len room WriteCount = KeyTaken ekey × KeyTaken ckey × (0 < count → count ≤ 65535 → ⊥)
+WriteSays ekey ckey number count len room WriteNumber = KeyTaken ekey × KeyTaken ckey × (0 < count) × (count ≤ 65535) × (count ≤ number)
+WriteSays ekey ckey number count len room WriteLength = KeyTaken ekey × KeyTaken ckey × (count ≤ 65535) × (number < count) × (lengthFits number count len ≡ false)
+WriteSays ekey ckey number count len room WriteRoom = KeyTaken ekey × KeyTaken ckey × (count ≤ 65535) × (number < count) × (lengthFits number count len ≡ true) × (room < 512)
 
 -- the output after the writer's call
 abbrev pub afterWrite : (ekey ckey : List ℕ) (number count release : ℕ) (payload out : List ℕ) → List ℕ
@@ -149,15 +172,16 @@ pub record Wrote (ekey ckey : List ℕ) (number count release : ℕ) (payload b 
 abbrev pub blocks : List ℕ → ℕ
 blocks p = max 1 ((length p + 479) / 480)
 
--- n blocks of the writer, from a number on, of what is left of the payload
-unfoldable pub written : (ek ck : BlockCipher) (count release number n : ℕ) → List ℕ → List (List ℕ)
-written ek ck count release number zero p = []
-written ek ck count release number (suc n) p =
-    sealed ek ck [] (headFor number count release (length (take 480 p))) (take 480 p) ∷ written ek ck count release (number + 1) n (drop 480 p)
+-- n blocks of the writer, from a number on, of what is left of the payload, each sealed on the check of the block before
+unfoldable pub written : Edition → (ek ck : BlockCipher) (count release : ℕ) (last : List ℕ) (number n : ℕ) → List ℕ → List (List ℕ)
+written ed ek ck count release last number zero p = []
+written ed ek ck count release last number (suc n) p =
+    let b = blockFor ed ek ck last number count release (take 480 p) in
+    b ∷ written ed ek ck count release (drop 496 b) (number + 1) n (drop 480 p)
 
--- the image of a payload
-abbrev pub image : (ek ck : BlockCipher) (release : ℕ) → List ℕ → List (List ℕ)
-image ek ck release p = written ek ck (blocks p) release 0 (blocks p) p
+-- the image of a payload in an edition
+abbrev pub image : Edition → (ek ck : BlockCipher) (release : ℕ) → List ℕ → List (List ℕ)
+image ed ek ck release p = written ed ek ck (blocks p) release noCheck 0 (blocks p) p
 
 -- ---- the reader
 
@@ -174,10 +198,10 @@ pub record Waits (s : Progress) (number count release : ℕ) : Type 0 where
   pub same-count : s .fixed ≡ true → count ≡ s .count
   pub same-release : s .fixed ≡ true → release ≡ s .release
 
--- a state after these blocks were accepted
-abbrev pub moved : Progress → List (List ℕ) → Progress
+-- where a reader stands after these blocks were accepted
+abbrev pub moved : Standing → List (List ℕ) → Standing
 moved s [] = s
-moved s (b ∷ bs) = moved (taken s (headOf b)) bs
+moved s (b ∷ bs) = moved (taken s b) bs
 
 -- the readers that a start and turns make
 pub data FromStart (ekey ckey : List ℕ) : Reader → Type 0 where
@@ -202,13 +226,15 @@ pub record Fair (lent : List ℕ) (asked : ℕ) (out : List ℕ) : Type 0 where
   pub blocks-lent : length lent % 512 ≡ 0
   pub room : 480 * handled lent asked ≤ length out
 
--- what each way to stop says of what was lent
-abbrev pub StopSays : (lent : List ℕ) (asked : ℕ) (out : List ℕ) → Stop → Type 0
-StopSays lent asked out Asked = 0 < asked → asked ≤ 128 → ⊥
-StopSays lent asked out Lent = length lent % 512 ≡ 0 → ⊥
-StopSays lent asked out Room = length out < 480 * handled lent asked
-StopSays lent asked out End = Fair lent asked out
-StopSays lent asked out (At place reason) = Fair lent asked out
+-- what each way to stop says of what was lent to a reader: 5, 6 and 4 in that order, then the first block that is refused, and why
+abbrev pub StopSays : Reader → (lent : List ℕ) (asked : ℕ) (out : List ℕ) → Stop → Type 0
+StopSays r lent asked out Asked = 0 < asked → asked ≤ 128 → ⊥
+StopSays r lent asked out Lent = (0 < asked) × (asked ≤ 128) × (length lent % 512 ≡ 0 → ⊥)
+StopSays r lent asked out Room = (0 < asked) × (asked ≤ 128) × (length lent % 512 ≡ 0) × (length out < 480 * handled lent asked)
+StopSays r lent asked out End = Fair lent asked out × AllMet (keysOf r) one (standing (r .progress)) (handled lent asked) (given lent asked)
+StopSays r lent asked out (At place reason) =
+    Fair lent asked out × (place < handled lent asked) × AllMet (keysOf r) one (standing (r .progress)) place (given lent asked)
+    × Says (keysOf r) one (moved (standing (r .progress)) (take place (given lent asked))) (getD (given lent asked) place []) (Refused reason)
 
 -- refused as a whole
 abbrev pub Whole : Stop → Type 0
@@ -217,6 +243,16 @@ Whole Lent = Unit {0}
 Whole Room = Unit {0}
 Whole End = ⊥
 Whole (At place reason) = ⊥
+
+-- what each answer of a start says
+abbrev pub StartSays : (ekey ckey : List ℕ) → KeyAnswer → Type 0
+StartSays ekey ckey Taken = KeyTaken ekey × KeyTaken ckey
+StartSays ekey ckey KeyLength = KeyTaken ekey → KeyTaken ckey → ⊥
+
+-- what each answer about completion says
+abbrev pub CompletionSays : Progress → Completion → Type 0
+CompletionSays s Complete = (s .fixed ≡ true) × (s .next ≡ s .count)
+CompletionSays s NotComplete = s .fixed ≡ true → s .next ≡ s .count → ⊥
 
 -- what a caller lends in one turn
 pub record Lending : Type 0 where
@@ -280,7 +316,7 @@ laterBy n Room = Room
 
 abbrev pub andThen : Reading → Reading → Reading
 andThen a b = record {
-  progress = b .progress;
+  standing = b .standing;
   accepted = a .accepted + b .accepted;
   bytes = a .bytes + b .bytes;
   stop = laterBy (a .accepted) (b .stop);

@@ -4,28 +4,28 @@ use mathlib.Core.Bool.{Bool, true, false, _&&_, _||_}
 use mathlib.Core.Logic.{⊎-elim}
 use mathlib.Core.List.{List, [], _∷_, _++_}
 use Prim.Native.Nat.{ℕ, zero, suc, _+_, _*_, _-_, _≤_, _<_}
-use native.Mathlib.Nat.{zero-add, zero-mul, eq-or-lt-of-le}
+use native.Mathlib.Nat.{zero-add, add-zero, zero-mul, eq-or-lt-of-le}
 use native.Mathlib.Omega.{arith}
 use borrow.Author.Tests.{eqb-true, eqb-false, eq-eqb, lt-ltb, le-leb}
 use lib.Dec.{eqb, ltb, leb}
 use lib.ListN.{length, getD, take, drop, length-take, length-drop, take-append-drop}
 use lib.Seq.{drop-drop}
-use Rattle.octets.specs.Octets.{choose, Bytes}
+use Rattle.octets.specs.Octets.{choose, Bytes, Octets}
 use Rattle.octets.specs.Blocks.{BlockCipher, Lawful}
-use Rattle.octets.proofs.Blocks.{take-bytes, drop-bytes, length-nil}
+use Rattle.octets.proofs.Blocks.{take-bytes, drop-bytes, zeros-bytes, length-nil}
 use Rattle.sp800_38a.specs.Pieces.{piece}
+use Rattle.sp800_38b.specs.Cmac.{cmac}
 use Rattle.header.specs.Layout.{headOf}
 use Rattle.header.specs.Rules.{done, lengthFits}
 use Rattle.header.specs.declared.Head.{Head}
-use Rattle.header.specs.declared.Progress.{Progress}
 use Rattle.header.specs.declared.Verdict.the-variants.{Accepted}
 use Rattle.header.proofs.Laws.{Wide}
-use Rattle.image.specs.Sealed.{sealed}
-use Rattle.image.specs.Judge.{Keys, judge, fresh, taken}
+use Rattle.format.specs.Edition.{Edition, noCheck}
+use Rattle.format.specs.Sealed.{headFor, blockFor}
+use Rattle.format.specs.Judge.{Keys, Standing, judge, fresh, taken, ofEdition}
 use Rattle.image.specs.Turn.{Reading, later, ran}
-use Rattle.image.specs.Calls.{headFor}
 use Rattle.image.specs.declared.Stop.the-variants.{End}
-use Rattle.promises.proofs.ImageTerms.{Right, Blocks, payload, parts, blocks, written, image}
+use Rattle.promises.proofs.ImageTerms.{Proper, Right, Blocks, payload, parts, blocks, written, image}
 use Rattle.promises.proofs.ImageSealed.{filled-payload, sealed-size, sealed-bytes, sealed-opened, sealed-head}
 use Rattle.promises.proofs.ImageJudge.{sealed-accepted}
 use Rattle.promises.proofs.ImageTurn.{ran-accepted}
@@ -33,20 +33,20 @@ use Rattle.promises.proofs.ImageTurn.{ran-accepted}
 -- ---- blocks that pass
 
 -- every block is accepted, and the image is complete at the end
-abbrev pub Passes : Keys → Progress → List (List ℕ) → Type 0
-Passes k s [] = done s ≡ true
-Passes k s (b ∷ bs) = (judge k s b ≡ Accepted) × Passes k (taken s (headOf b)) bs
+abbrev pub Passes : Keys → Edition → Standing → List (List ℕ) → Type 0
+Passes k ed s [] = done (s .progress) ≡ true
+Passes k ed s (b ∷ bs) = (judge k ed s b ≡ Accepted) × Passes k ed (taken s b) bs
 
-module _ (k : Keys) where
+module _ (k : Keys) (ed : Edition) where
   -- the first part of what passes
-  pub passes-front : (s : Progress) (bs cs : List (List ℕ)) → Passes k s (bs ++ cs)
-      → (ran k s bs .stop ≡ End) × (ran k s bs .accepted ≡ length bs) × Passes k (ran k s bs .progress) cs
+  pub passes-front : (s : Standing) (bs cs : List (List ℕ)) → Passes k ed s (bs ++ cs)
+      → (ran (ofEdition k ed) s bs .stop ≡ End) × (ran (ofEdition k ed) s bs .accepted ≡ length bs) × Passes k ed (ran (ofEdition k ed) s bs .standing) cs
   unfolding ran
   passes-front s [] cs p = (refl, refl, p)
   passes-front s (b ∷ bs) cs p =
-      let ih = passes-front (taken s (headOf b)) bs cs (p .1) in
-      subst (λ (t : Reading). (t .stop ≡ End) × (t .accepted ≡ length (b ∷ bs)) × Passes k (t .progress) cs)
-      (sym (ran-accepted k s b bs (p .0))) (ap later (ih .0), ap suc (ih .1), ih .2)
+      let ih = passes-front (taken s b) bs cs (p .1) in
+      subst (λ (t : Reading). (t .stop ≡ End) × (t .accepted ≡ length (b ∷ bs)) × Passes k ed (t .standing) cs)
+      (sym (ran-accepted (ofEdition k ed) s b bs (p .0))) (ap later (ih .0), ap suc (ih .1), ih .2)
 
 -- ---- lengths by their place
 
@@ -94,101 +94,132 @@ left-all p = record { most = omega arith; least = λ a b. omega arith }
 
 -- ---- the writer's blocks are accepted
 
-none : Bytes []
-none k = omega arith
+pub no-check-octets : Octets 16 noCheck
+no-check-octets = record { size = refl; bytes = zeros-bytes 16 }
 
-module _ (ek ck : BlockCipher) (le : Lawful 16 ek) (lc : Lawful 16 ck) (N R : ℕ) (hN : N ≤ 65535) (hR : R < 4294967296) where
+module _ (ed : Edition) (pe : Proper ed) (ek ck : BlockCipher) (le : Lawful 16 ek) (lc : Lawful 16 ck) (N R : ℕ) (hN : N ≤ 65535) (hR : R < 4294967296) where
   abbrev keys : Keys
-  keys = record { enc = ek; chk = ck; usable = true }
+  keys = record { enc = ek; mac = cmac ck; usable = true }
 
-  wide : (n : ℕ) (p : List ℕ) → n < N → Wide (headFor n N R (length (take 480 p)))
-  wide n p h = record { number-wide = omega arith; count-wide = omega arith; release-wide = hR; len-wide = omega (arith, length-take 480 p); reserved-wide = omega arith }
+  wide : (n : ℕ) (p : List ℕ) → n < N → Wide (headFor ed n N R (length (take 480 p)))
+  wide n p h = record { number-wide = omega arith; count-wide = omega arith; release-wide = hR; len-wide = omega (arith, length-take 480 p); reserved-wide = pe .mark-wide }
 
-  small : (p : List ℕ) → length (take 480 p) ≤ 480
-  small p = omega (arith, length-take 480 p)
+  -- a block of the next 480 bytes
+  module _ (last : List ℕ) (ol : Octets 16 last) (n : ℕ) (p : List ℕ) (bp : Bytes p) where
+    abbrev block : List ℕ
+    block = blockFor ed ek ck last n N R (take 480 p)
 
-  written-passes : (n : ℕ) (s : Progress) (p : List ℕ) → s .next + n ≡ N → (n ≡ 0 → s .fixed ≡ true) → (s .fixed ≡ true → N ≡ s .count) → (s .fixed ≡ true → R ≡ s .release)
-      → Bytes p → Left N (s .next) p → Passes keys s (written ek ck N R (s .next) n p)
+    small : length (take 480 p) ≤ 480
+    small = omega (arith, length-take 480 p)
+
+    tail-is : Bytes (ed .tail last)
+    tail-is = pe .tail-bytes last ol
+
+    block-octets : Octets 512 block
+    block-octets = record {
+      size = sealed-size ek ck le lc (headFor ed n N R (length (take 480 p))) (take 480 p) small (take-bytes 480 p bp) (ed .tail last) tail-is;
+      bytes = sealed-bytes ek ck le lc (headFor ed n N R (length (take 480 p))) (take 480 p) small (take-bytes 480 p bp) (ed .tail last) tail-is;
+    }
+
+    check-octets : Octets 16 (drop 496 block)
+    check-octets = record { size = omega (arith, length-drop 496 block, block-octets .size); bytes = drop-bytes 496 block (block-octets .bytes) }
+
+    block-head : n < N → headOf block ≡ headFor ed n N R (length (take 480 p))
+    block-head h = sealed-head ek ck le lc (headFor ed n N R (length (take 480 p))) (take 480 p) small (take-bytes 480 p bp) (ed .tail last) tail-is (wide n p h)
+
+    block-payload : n < N → payload ek block ≡ take 480 p
+    block-payload h =
+        ap₂ (λ (m : ℕ) (x : List ℕ). take m x) (ap (λ (x : Head). x .len) (block-head h)) (sealed-opened ek ck le lc (headFor ed n N R (length (take 480 p))) (take 480 p) small (take-bytes 480 p bp) (ed .tail last) tail-is)
+        ∙ filled-payload (take 480 p) (length (take 480 p)) refl
+
+  written-passes : (n : ℕ) (s : Standing) (p : List ℕ) → Octets 16 (s .last) → s .progress .next + n ≡ N → (n ≡ 0 → s .progress .fixed ≡ true) → (s .progress .fixed ≡ true → N ≡ s .progress .count)
+      → (s .progress .fixed ≡ true → R ≡ s .progress .release) → Bytes p → Left N (s .progress .next) p → Passes keys ed s (written ed ek ck N R (s .last) (s .progress .next) n p)
   unfolding written done
-  written-passes zero s p hn hf hc hr bp t =
+  written-passes zero s p ol hn hf hc hr bp t =
       let f = hf refl in
-      let e : eqb (s .next) (s .count) ≡ true = eq-eqb (s .next) (s .count) (omega (arith, hc f)) in
+      let e : eqb (s .progress .next) (s .progress .count) ≡ true = eq-eqb (s .progress .next) (s .progress .count) (omega (arith, hc f)) in
       rw (f, e) refl
-  written-passes (suc n) s p hn hf hc hr bp t =
-      let below : s .next < N = omega arith in
-      let h = headFor (s .next) N R (length (take 480 p)) in
-      let q = take 480 p in
-      let right : Right s h = record {
+  written-passes (suc n) s p ol hn hf hc hr bp t =
+      let next = s .progress .next in
+      let below : next < N = omega arith in
+      let h = headFor ed next N R (length (take 480 p)) in
+      let b = block (s .last) ol next p bp in
+      let right : Right (ed .mark) (s .progress) h = record {
         count-low = omega arith;
         count-high = hN;
         expected = refl;
         same-count = hc;
         same-release = hr;
         below = below;
-        len-fits = left-fits N (s .next) p below t;
-        reserved-zero = refl;
+        len-fits = left-fits N next p below t;
+        marked = refl;
       } in
-      let eh : headOf (sealed ek ck [] h q) ≡ h = sealed-head ek ck le lc h q (small p) (take-bytes 480 p bp) [] none (wide (s .next) p below) in (
-        sealed-accepted ek ck le lc s h q (take-bytes 480 p bp) refl (wide (s .next) p below) right,
-        written-passes n (taken s (headOf (sealed ek ck [] h q))) (drop 480 p) (omega arith) (λ e. refl) (λ e. sym (ap (λ (x : Head). x .count) eh)) (λ e. sym (ap (λ (x : Head). x .release) eh)) (drop-bytes 480 p bp)
-            (left-drop N (s .next) p below t),
+      let eh : headOf b ≡ h = block-head (s .last) ol next p bp below in (
+        sealed-accepted ek ck le lc ed s h (take 480 p) (tail-is (s .last) ol next p bp) (take-bytes 480 p bp) refl (wide next p below) right,
+        written-passes n (taken s b) (drop 480 p) (check-octets (s .last) ol next p bp) (omega arith) (λ e. refl) (λ e. sym (ap (λ (x : Head). x .count) eh)) (λ e. sym (ap (λ (x : Head). x .release) eh))
+            (drop-bytes 480 p bp) (left-drop N next p below t),
       )
 
   -- and hold the payload
-  written-parts : (n number : ℕ) (p : List ℕ) → number + n ≡ N → Bytes p → length p ≤ 480 * n → parts ek (written ek ck N R number n p) ≡ p
+  written-parts : (n number : ℕ) (last p : List ℕ) → Octets 16 last → number + n ≡ N → Bytes p → length p ≤ 480 * n → parts ek (written ed ek ck N R last number n p) ≡ p
   unfolding written
-  written-parts zero number p hn bp l = sym (length-nil p (omega arith))
-  written-parts (suc n) number p hn bp l =
-      let h = headFor number N R (length (take 480 p)) in
-      let q = take 480 p in
-      let eh : headOf (sealed ek ck [] h q) ≡ h = sealed-head ek ck le lc h q (small p) (take-bytes 480 p bp) [] none (wide number p (omega arith)) in
-      let e : payload ek (sealed ek ck [] h q) ≡ q =
-      ap₂ (λ (n : ℕ) (x : List ℕ). take n x) (ap (λ (x : Head). x .len) eh) (sealed-opened ek ck le lc h q (small p) (take-bytes 480 p bp) [] none)
-      ∙ filled-payload q (length q) refl in
-      ap₂ _++_ e (written-parts n (number + 1) (drop 480 p) (omega arith) (drop-bytes 480 p bp) (omega (arith, length-drop 480 p))) ∙ take-append-drop 480 p
+  written-parts zero number last p ol hn bp l = sym (length-nil p (omega arith))
+  written-parts (suc n) number last p ol hn bp l =
+      ap₂ _++_ (block-payload last ol number p bp (omega arith))
+      (written-parts n (number + 1) (drop 496 (block last ol number p bp)) (drop 480 p) (check-octets last ol number p bp) (omega arith) (drop-bytes 480 p bp) (omega (arith, length-drop 480 p)))
+      ∙ take-append-drop 480 p
 
-  written-blocks : (n number : ℕ) (p : List ℕ) → Bytes p → Blocks (written ek ck N R number n p)
+  written-blocks : (n number : ℕ) (last p : List ℕ) → Octets 16 last → Bytes p → Blocks (written ed ek ck N R last number n p)
   unfolding written
-  written-blocks zero number p bp = tt
-  written-blocks (suc n) number p bp =
-      let h = headFor number N R (length (take 480 p)) in (
-        record { size = sealed-size ek ck le lc h (take 480 p) (small p) (take-bytes 480 p bp) [] none; bytes = sealed-bytes ek ck le lc h (take 480 p) (small p) (take-bytes 480 p bp) [] none },
-        written-blocks n (number + 1) (drop 480 p) (drop-bytes 480 p bp),
-      )
+  written-blocks zero number last p ol bp = tt
+  written-blocks (suc n) number last p ol bp =
+      (block-octets last ol number p bp, written-blocks n (number + 1) (drop 496 (block last ol number p bp)) (drop 480 p) (check-octets last ol number p bp) (drop-bytes 480 p bp))
 
-pub written-length : (ek ck : BlockCipher) (N R n number : ℕ) (p : List ℕ) → length (written ek ck N R number n p) ≡ n
-unfolding written
-written-length ek ck N R zero number p = refl
-written-length ek ck N R (suc n) number p = ap suc (written-length ek ck N R n (number + 1) (drop 480 p))
+module _ (ed : Edition) (ek ck : BlockCipher) (N R : ℕ) where
+  pub written-length : (n number : ℕ) (last p : List ℕ) → length (written ed ek ck N R last number n p) ≡ n
+  unfolding written
+  written-length zero number last p = refl
+  written-length (suc n) number last p = ap suc (written-length n (number + 1) (drop 496 (blockFor ed ek ck last number N R (take 480 p))) (drop 480 p))
 
--- block i is the sealing of the i-th 480 bytes of the payload
-pub written-at : (ek ck : BlockCipher) (N R n number : ℕ) (p : List ℕ) (i : ℕ) → i < n
-    → getD (written ek ck N R number n p) i [] ≡ sealed ek ck [] (headFor (number + i) N R (length (piece 480 p i))) (piece 480 p i)
-unfolding written
-written-at ek ck N R zero number p i h = absurd (omega arith)
-written-at ek ck N R (suc n) number p zero h =
-    let a : number + 0 ≡ number = omega arith in
-    rw (a, zero-mul 480)
-written-at ek ck N R (suc n) number p (suc i) h =
-    let a : number + 1 + i ≡ number + suc i = omega arith in
-    let b : 480 + i * 480 ≡ suc i * 480 = omega arith in
-    let e : drop (i * 480) (drop 480 p) ≡ drop (suc i * 480) p = drop-drop (i * 480) 480 p ∙ ap (λ (m : ℕ). drop m p) b in
-    written-at ek ck N R n (number + 1) (drop 480 p) i (omega arith)
-    ∙ ap₂ (λ (m : ℕ) (x : List ℕ). sealed ek ck [] (headFor m N R (length (take 480 x))) (take 480 x)) a e
+  -- the check before block i
+  abbrev before : (last : List ℕ) (bs : List (List ℕ)) → ℕ → List ℕ
+  before last bs zero = last
+  before last bs (suc i) = drop 496 (getD bs i [])
+
+  -- block i is the sealing of the i-th 480 bytes of the payload on that check
+  pub written-at : (n number : ℕ) (last p : List ℕ) (i : ℕ) → i < n
+      → getD (written ed ek ck N R last number n p) i [] ≡ blockFor ed ek ck (before last (written ed ek ck N R last number n p) i) (number + i) N R (piece 480 p i)
+  unfolding written
+  written-at zero number last p i h = absurd (omega arith)
+  written-at (suc n) number last p zero h =
+      ap₂ (λ (m k : ℕ). blockFor ed ek ck last m N R (take 480 (drop k p))) (sym (add-zero number)) (sym (zero-mul 480))
+  written-at (suc n) number last p (suc i) h =
+      let b = blockFor ed ek ck last number N R (take 480 p) in
+      let rest = written ed ek ck N R (drop 496 b) (number + 1) n (drop 480 p) in
+      let a : number + 1 + i ≡ number + suc i = omega arith in
+      let c : 480 + i * 480 ≡ suc i * 480 = omega arith in
+      let e : drop (i * 480) (drop 480 p) ≡ drop (suc i * 480) p = drop-drop (i * 480) 480 p ∙ ap (λ (m : ℕ). drop m p) c in
+      written-at n (number + 1) (drop 496 b) (drop 480 p) i (omega arith)
+      ∙ ap₂ (λ (m : ℕ) (x : List ℕ). blockFor ed ek ck (before (drop 496 b) rest i) m N R (take 480 x)) a e
+      ∙ ap (λ (x : List ℕ). blockFor ed ek ck x (number + suc i) N R (piece 480 p (suc i))) (shift b rest i)
+    where
+      shift : (b : List ℕ) (rest : List (List ℕ)) (i : ℕ) → before (drop 496 b) rest i ≡ before last (b ∷ rest) (suc i)
+      shift b rest zero = refl
+      shift b rest (suc i) = refl
 
 -- ---- the whole
 
-module _ (ek ck : BlockCipher) (le : Lawful 16 ek) (lc : Lawful 16 ck) (R : ℕ) (p : List ℕ) (hR : R < 4294967296) (lp : length p ≤ 31456800) (bp : Bytes p) where
+module _ (ed : Edition) (pe : Proper ed) (ek ck : BlockCipher) (le : Lawful 16 ek) (lc : Lawful 16 ck) (R : ℕ) (p : List ℕ) (hR : R < 4294967296) (lp : length p ≤ 31456800) (bp : Bytes p) where
   few : blocks p ≤ 65535
   few = omega arith
 
-  pub image-blocks : Blocks (image ek ck R p)
-  image-blocks = written-blocks ek ck le lc (blocks p) R few hR (blocks p) 0 p bp
+  pub image-blocks : Blocks (image ed ek ck R p)
+  image-blocks = written-blocks ed pe ek ck le lc (blocks p) R few hR (blocks p) 0 noCheck p no-check-octets bp
 
-  pub image-parts : parts ek (image ek ck R p) ≡ p
-  image-parts = written-parts ek ck le lc (blocks p) R few hR (blocks p) 0 p (zero-add (blocks p)) bp (omega arith)
+  pub image-parts : parts ek (image ed ek ck R p) ≡ p
+  image-parts = written-parts ed pe ek ck le lc (blocks p) R few hR (blocks p) 0 noCheck p no-check-octets (zero-add (blocks p)) bp (omega arith)
 
-  pub image-passes : Passes (record { enc = ek; chk = ck; usable = true }) fresh (image ek ck R p)
+  pub image-passes : Passes (record { enc = ek; mac = cmac ck; usable = true }) ed fresh (image ed ek ck R p)
   image-passes =
-      written-passes ek ck le lc (blocks p) R few hR (blocks p) fresh p (zero-add (blocks p)) (λ e. absurd (omega arith))
+      written-passes ed pe ek ck le lc (blocks p) R few hR (blocks p) fresh p no-check-octets (zero-add (blocks p)) (λ e. absurd (omega arith))
       (λ e. let z : _≡_ {A = ℕ} 0 1 = cc in omega arith) (λ e. let z : _≡_ {A = ℕ} 0 1 = cc in omega arith) bp (left-all p)

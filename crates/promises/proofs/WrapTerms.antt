@@ -10,7 +10,7 @@ use Rattle.wrap.specs.Wrap.{initial, register, wrapped, unwrapped}
 use Rattle.wrap.specs.Calls.{sizeFits, wrappedSizeFits, wrapAnswer, wrapOutput, unwrapAnswer, unwrapOutput}
 use Rattle.wrap.specs.declared.WrapAnswer.{WrapAnswer}
 use Rattle.wrap.specs.declared.WrapAnswer.the-variants.{WrapDone, WrapKey, WrapSize, WrapRoom, WrongInitial}
-use Rattle.promises.proofs.ImageTerms.{KeyTaken}
+use Rattle.promises.proofs.Keys.{KeyTaken}
 
 -- the outputs after the two calls
 abbrev pub afterWrap : (key dat out : List ℕ) → List ℕ

@@ -8,17 +8,21 @@ use lib.Seq.{drop-append-le, take-append-seam, drop-drop, drop-append-add}
 use Rattle.octets.specs.Octets.{padTo, Bytes, Octets}
 use Rattle.octets.specs.Blocks.{_⊕_, BlockCipher}
 use Rattle.octets.proofs.Blocks.{take-bytes, append-bytes}
-use Rattle.sp800_38b.specs.Cmac.{earlier, chained, ended, cmac}
+use Rattle.sp800_38b.specs.Cmac.{key1, key2, last, earlier, chained, ended, endedBy, cmac, cmacBy}
 use Rattle.sp800_38b.proofs.Chain.{drop-piece, chained-add, chained-front}
 use Rattle.sp800_38b.proofs.Filling.{piece, piece-short, piece-full, held-length}
 use Rattle.sp800_38b.proofs.Same.{chained-same, ended-same}
-use Rattle.running.specs.Running.{heldBytes, holding, takenIn, begun, fed, closed}
+use Rattle.running.specs.Running.{heldBytes, holding, takenIn, begun, fed, closed, closedBy}
 use Rattle.running.specs.declared.Run.{Run}
 
 module _ (c : BlockCipher) where
   pub closed-holding : (st b : List ℕ) → closed c (holding st b) ≡ ended c st b
   unfolding closed padTo
   closed-holding st b = ap (ended c st) (take-append-seam b (replicate (16 - length b) 0))
+
+  pub closed-by : (r : Run) → closedBy c (key1 c) (key2 c) r ≡ closed c r
+  unfolding closedBy closed endedBy ended last
+  closed-by r = refl
 
   -- a first piece that is not the last
   pub taken-step : (st s : List ℕ) → 16 < length s → takenIn c st s ≡ takenIn c (c .enc (st ⊕ take 16 s)) (drop 16 s)
@@ -61,6 +65,21 @@ module _ (c : BlockCipher) where
 
   pub whole-fed : (s : List ℕ) → closed c (fed c begun s) ≡ cmac c s
   whole-fed s = ap (λ (r : Run). closed c (fed c r s)) begun-taken ∙ ap (closed c) (fed-taken (replicate 16 0) [] s) ∙ whole s
+
+  -- the same with subkeys that were made before
+  held-by : (k1 k2 m : List ℕ) → closedBy c k1 k2 (takenIn c (replicate 16 0) m) ≡ cmacBy c k1 k2 m
+  unfolding takenIn closedBy padTo cmacBy
+  held-by k1 k2 m =
+      ap (endedBy c k1 k2 (chained c (replicate 16 0) (earlier m) m))
+      (take-append-seam (drop (earlier m * 16) m) (replicate (16 - length (drop (earlier m * 16) m)) 0))
+
+  -- and the message in two parts
+  pub whole-by : (k1 k2 s t : List ℕ) → closedBy c k1 k2 (fed c (fed c begun s) t) ≡ cmacBy c k1 k2 (s ++ t)
+  whole-by k1 k2 s t =
+      ap (λ (r : Run). closedBy c k1 k2 (fed c (fed c r s) t)) begun-taken
+      ∙ ap (λ (r : Run). closedBy c k1 k2 (fed c r t)) (fed-taken (replicate 16 0) [] s)
+      ∙ ap (closedBy c k1 k2) (fed-taken (replicate 16 0) s t)
+      ∙ held-by k1 k2 (s ++ t)
 
 -- ---- a run is fed: the part finds room, or the piece is full and more comes
 

@@ -5,7 +5,7 @@ use mathlib.Core.List.{List, [], _++_}
 use lib.ListN.{length, take, drop, replicate}
 use Rattle.octets.specs.Octets.{padTo}
 use Rattle.octets.specs.Blocks.{BlockCipher}
-use Rattle.sp800_38b.specs.Cmac.{earlier, chained, ended}
+use Rattle.sp800_38b.specs.Cmac.{earlier, chained, ended, endedBy}
 use Rattle.running.specs.declared.Run.{Run}
 
 -- the bytes that a run holds; a count past 16, which no start makes, stands for 16
@@ -29,3 +29,7 @@ fed c r part = takenIn c (r .chain) (heldBytes r ++ part)
 
 unfoldable pub closed : BlockCipher → Run → List ℕ
 closed c r = ended c (r .chain) (heldBytes r)
+
+-- the same with subkeys that were made before
+unfoldable pub closedBy : BlockCipher → (k1 k2 : List ℕ) → Run → List ℕ
+closedBy c k1 k2 r = endedBy c k1 k2 (r .chain) (heldBytes r)

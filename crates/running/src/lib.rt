@@ -49,12 +49,20 @@ impl Run {
         taken_in(table, words, rounds, next, &part[room..])
     }
 
-    pub fn closed(self, table: &[u32; 256], words: &[u32; 60], rounds: usize) -> [u8; 16]
-        ensures { λ r. ⌜ r ≡ running.closed (oneTable (now (table .entry)) (now (words .entry)) rounds) self ⌝ }
+    // The check of all that was fed, with the subkeys lent: whoever makes many checks makes them once.
+    pub fn closed(
+        self,
+        table: &[u32; 256],
+        words: &[u32; 60],
+        rounds: usize,
+        key1: &[u8; 16],
+        key2: &[u8; 16],
+    ) -> [u8; 16]
+        ensures { λ r. ⌜ r ≡ running.closedBy (oneTable (now (table .entry)) (now (words .entry)) rounds) (now (key1 .entry)) (now (key2 .entry)) self ⌝ }
     {
         let chain = self.chain;
         let held = self.held;
-        let end = last(table, words, rounds, held, self.count);
+        let end = last(key1, key2, held, self.count);
         encrypt_block(table, words, rounds, xor(chain, end))
     }
 }

@@ -2,4 +2,5 @@ pub mod Pieces
 pub mod Joining
 pub mod Undo
 pub mod Sixteen
+pub mod Same
 pub mod Equations

@@ -9,9 +9,9 @@ use borrow.Author.Tests.{ltb-true, ltb-false, eq-eqb, ne-eqb}
 use lib.ListN.{length, getD, take, drop, length-append, length-drop, length-take, set, List·getD-append, List·getD-eq-default}
 use lib.Seq.{length-take-le, take-all, getD-take, getD-append-add}
 use Rattle.octets.specs.Octets.{choose, padTo, tabulate}
-use Rattle.octets.specs.Blocks.{_⊕_, BlockCipher}
+use Rattle.octets.specs.Blocks.{_⊕_}
 use Rattle.octets.proofs.Fill.{Filled, filled-more, filled-all, is-tabulate, getD-padTo, length-padTo}
-use Rattle.sp800_38b.specs.Cmac.{shifted, key1, key2, padded, last}
+use Rattle.sp800_38b.specs.Cmac.{shifted, padded, lastBy}
 
 -- the first 16 bytes, and zeros past the end
 abbrev pub piece : List ℕ → List ℕ
@@ -56,15 +56,14 @@ module _ (held : List ℕ) (size : length held ≡ 16) where
 
   -- ---- the last piece
 
-  pub last-short : (c : BlockCipher) (count : ℕ) → count < 16 → key2 c ⊕ piece (take count held ++ (128 ∷ [])) ≡ last c (take count held)
-  unfolding last padded
-  last-short c count h =
+  pub last-short : (k1 k2 : List ℕ) (count : ℕ) → count < 16 → k2 ⊕ piece (take count held ++ (128 ∷ [])) ≡ lastBy k1 k2 (take count held)
+  unfolding padded
+  last-short k1 k2 count h =
       let n : length (take count held) ≡ 16 → ⊥ = λ e. omega (arith, held-length count) in
       rw (ne-eqb (length (take count held)) 16 n, piece-short (take count held ++ (128 ∷ [])) (omega (arith, held-length count, length-append (take count held) (128 ∷ []))))
 
-  pub last-full : (c : BlockCipher) (count : ℕ) → 16 ≤ count → key1 c ⊕ held ≡ last c (take count held)
-  unfolding last
-  last-full c count h = rw (take-all count held (omega arith), eq-eqb (length held) 16 size)
+  pub last-full : (k1 k2 : List ℕ) (count : ℕ) → 16 ≤ count → k1 ⊕ held ≡ lastBy k1 k2 (take count held)
+  last-full k1 k2 count h = rw (take-all count held (omega arith), eq-eqb (length held) 16 size)
 
 -- ---- a number shifted
 

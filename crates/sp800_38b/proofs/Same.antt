@@ -7,7 +7,7 @@ use lib.ListN.{length, take, drop, replicate, length-drop}
 use Rattle.octets.specs.Octets.{Bytes, Octets}
 use Rattle.octets.specs.Blocks.{_⊕_, BlockCipher}
 use Rattle.octets.proofs.Blocks.{⊕-octets, drop-bytes, take-octets}
-use Rattle.sp800_38b.specs.Cmac.{doubled, key1, key2, last, earlier, chained, ended, cmac}
+use Rattle.sp800_38b.specs.Cmac.{doubled, key1, key2, last, earlier, chained, ended, endedBy, cmac, cmacBy}
 use Rattle.sp800_38b.proofs.OnePiece.{zeros-octets, last-octets, next-octets, chained-octets}
 
 -- c and d agree on blocks, and blocks go to blocks
@@ -43,3 +43,8 @@ module _ (c d : BlockCipher) (same : (x : List ℕ) → Octets 16 x → c .enc x
       ap (λ (x : List ℕ). ended c x (drop (n * 16) m)) (chained-same n (replicate 16 0) m zeros-octets b h)
       ∙ ended-same (chained d (replicate 16 0) n m) (drop (n * 16) m) (chained-octets d enc-block n (replicate 16 0) m zeros-octets b h)
       (omega (arith, length-drop (n * 16) m)) (drop-bytes (n * 16) m b)
+
+-- with the cipher's own subkeys made before, it is CMAC
+pub cmac-by : (c : BlockCipher) (m : List ℕ) → cmacBy c (key1 c) (key2 c) m ≡ cmac c m
+unfolding cmacBy cmac endedBy ended last
+cmac-by c m = refl

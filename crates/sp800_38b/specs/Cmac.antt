@@ -30,9 +30,12 @@ key2 c = doubled (key1 c)
 unfoldable pub padded : List ℕ → List ℕ
 padded b = padTo 16 (b ++ (0x80 ∷ []))
 
--- M_n of the last piece M_n* (6.2, step 4)
+-- M_n of the last piece M_n* (6.2, step 4), with the subkeys at hand
+abbrev pub lastBy : (k1 k2 b : List ℕ) → List ℕ
+lastBy k1 k2 b = choose (eqb (length b) 16) (k1 ⊕ b) (k2 ⊕ padded b)
+
 unfoldable pub last : BlockCipher → List ℕ → List ℕ
-last c b = choose (eqb (length b) 16) (key1 c ⊕ b) (key2 c ⊕ padded b)
+last c b = lastBy (key1 c) (key2 c) b
 
 -- how many pieces come before the last (6.2, step 2): a full piece at the end is the last, and so is the piece of no bytes
 abbrev pub earlier : List ℕ → ℕ
@@ -44,12 +47,19 @@ chained c st zero m = st
 chained c st (suc n) m = chained c (c .enc (st ⊕ take 16 m)) n (drop 16 m)
 
 -- the last block of the chain
+unfoldable pub endedBy : BlockCipher → (k1 k2 st b : List ℕ) → List ℕ
+endedBy c k1 k2 st b = c .enc (st ⊕ lastBy k1 k2 b)
+
 unfoldable pub ended : BlockCipher → List ℕ → List ℕ → List ℕ
 ended c st b = c .enc (st ⊕ last c b)
 
 -- MAC generation (6.2), all 16 bytes: the chain starts at zeros (step 5)
 unfoldable pub cmac : BlockCipher → List ℕ → List ℕ
 cmac c m = ended c (chained c (replicate 16 0) (earlier m) m) (drop (earlier m * 16) m)
+
+-- the same with subkeys that were made before: CMAC where they are the cipher's own
+unfoldable pub cmacBy : BlockCipher → (k1 k2 m : List ℕ) → List ℕ
+cmacBy c k1 k2 m = endedBy c k1 k2 (chained c (replicate 16 0) (earlier m) m) (drop (earlier m * 16) m)
 
 -- two messages are the same outside piece i of 16 bytes, counted from the start
 abbrev pub SameOutside : ℕ → List ℕ → List ℕ → Type 0

@@ -24,22 +24,28 @@ pub fn filled(held: [u8; 16], count: usize, part: &[u8]) -> [u8; 16]
     piece
 }
 
-// The last piece, of which this many bytes are held: a full one with K1, a shorter one padded and with K2.
-pub fn last(
-    table: &[u32; 256],
-    words: &[u32; 60],
-    rounds: usize,
-    held: [u8; 16],
-    count: usize,
-) -> [u8; 16]
-    ensures { λ r. ⌜ r ≡ spec.last (oneTable (now (table .entry)) (now (words .entry)) rounds) (take count held) ⌝ }
+// K1.
+pub fn key1(table: &[u32; 256], words: &[u32; 60], rounds: usize) -> [u8; 16]
+    ensures { λ r. ⌜ r ≡ spec.key1 (oneTable (now (table .entry)) (now (words .entry)) rounds) ⌝ }
 {
-    let key1 = doubled(encrypt_block(table, words, rounds, [0u8; 16]));
-    let key2 = doubled(key1);
+    doubled(encrypt_block(table, words, rounds, [0u8; 16]))
+}
+
+// K2, from K1.
+pub fn key2(key1: [u8; 16]) -> [u8; 16]
+    ensures { λ r. ⌜ r ≡ spec.doubled key1 ⌝ }
+{
+    doubled(key1)
+}
+
+// The last piece, of which this many bytes are held: a full one with K1, a shorter one padded and with K2.
+pub fn last(key1: &[u8; 16], key2: &[u8; 16], held: [u8; 16], count: usize) -> [u8; 16]
+    ensures { λ r. ⌜ r ≡ spec.lastBy (now (key1 .entry)) (now (key2 .entry)) (take count held) ⌝ }
+{
     if count < 16 {
-        return xor(key2, filled(held, count, b"\x80"));
+        return xor(*key2, filled(held, count, b"\x80"));
     }
-    xor(key1, held)
+    xor(*key1, held)
 }
 
 fn byte_of(held: u8, count: usize, part: &[u8], i: usize) -> u8

@@ -78,7 +78,8 @@ pub fn unwrap(key: &[u8], data: &[u8], output: &mut [u8]) -> WrapAnswer
     let WrapAnswer::WrapDone = answer else {
         return answer;
     };
-    let back = inverse_words(&words, schedule.rounds);
+    let mut back = [0u32; 60];
+    inverse_words(&words, schedule.rounds, &mut back);
     let table = inverse_table();
     unwrap_into(&table, &back, schedule.rounds, data, output)
 }

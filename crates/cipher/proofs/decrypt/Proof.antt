@@ -22,9 +22,9 @@ decrypt-block-requires c κs = search needs
 
 returns : tie.Need-returns
 returns c =
-    let s = c .before .before .before .before .before .before .before .before .before .before in
+    let s = c .before .before .before .before .before .before .before .before .before .before .before in
     let o : Octets 16 (s .args .block) = record { size = s .good .1 .0 .1 .0 .1; bytes = λ k. (let h : Fits w8 (getD (s .args .block) k 0) = search needs in h .fits) } in
-    decrypt-under (now (s .args .key)) o _ _ _ _ (c .before .before .before .inverse-table .ensures) (c .before .before .before .before .before .before .before .before .new .ensures) (c .before .before .before .before .inverse-words .ensures) (c .decrypt-block .ensures)
+    decrypt-under (now (s .args .key)) o _ _ _ _ (c .before .before .before .inverse-table .ensures) (c .before .before .before .before .before .before .before .before .before .new .ensures) (c .before .before .before .before .inverse-words .ensures) (c .decrypt-block .ensures)
 
 pub decrypt-spec : {M : Type 1} → statement M
 decrypt-spec =

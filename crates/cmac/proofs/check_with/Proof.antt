@@ -12,13 +12,13 @@ new-requires c κs = search needs
 fed-requires : tie.Need-fed-requires
 fed-requires c κs = search needs
 
-closed-requires : tie.Need-closed-requires
-closed-requires c κs = search needs
+close-run-requires : tie.Need-close-run-requires
+close-run-requires c κs = search needs
 
 returns : tie.Need-returns
 returns c =
     let a = c .before .before .before .before .args in
-    c .closed .ensures ∙ rw (c .before .fed .ensures, c .before .before .new .ensures) (whole-fed (oneTable (now (a .table)) (now (a .words)) (a .rounds)) (now (a .message)))
+    c .close-run .ensures ∙ rw (c .before .fed .ensures, c .before .before .new .ensures) (whole-fed (oneTable (now (a .table)) (now (a .words)) (a .rounds)) (now (a .message)))
 
 pub check-with-spec : {M : Type 1} → statement M
-check-with-spec = tie.close (tie.spec new-requires fed-requires closed-requires returns)
+check-with-spec = tie.close (tie.spec new-requires fed-requires close-run-requires returns)

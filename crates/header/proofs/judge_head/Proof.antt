@@ -7,6 +7,12 @@ use borrow.Author.Needs.{needs}
 use Rattle.header.proofs.judge_head.Statement.{statement}
 use Rattle.header.proofs.judge_head.Tie as tie
 
+differs-requires : tie.Need-differs-requires
+differs-requires c κs = search needs
+
+differs-requires-2 : tie.Need-differs-requires-2
+differs-requires-2 c κs = search needs
+
 count-fits-requires : tie.Need-count-fits-requires
 count-fits-requires c κs = search needs
 
@@ -18,47 +24,44 @@ returns c =
 returns-2 : tie.Need-returns-2
 unfolding headTests
 returns-2 c =
-    let p1 = c .before .before in
+    let p1 = c .before in
     miss _ _ _ _ (sym (ap not (p1 .before .count-fits .ensures)) ∙ p1 .if1 .left)
-    (hit _ _ _ (ap not (ne-eqb _ _ (c .if2 .taken))))
-
-differs-requires : tie.Need-differs-requires
-differs-requires c κs = search needs
+    (hit _ _ _ (c .if2 .taken))
 
 returns-3 : tie.Need-returns-3
 unfolding headTests
 returns-3 c =
-    let p2 = c .before .before in
-    let p1 = p2 .before .before in
+    let p2 = c .before in
+    let p1 = p2 .before in
+    let d = p1 .before .before in
     miss _ _ _ _ (sym (ap not (p1 .before .count-fits .ensures)) ∙ p1 .if1 .left)
-    (miss _ _ _ _ (ap not (eq-eqb _ _ (p2 .if2 .left)))
-    (hit _ _ _ (sym (c .before .differs .ensures) ∙ c .if3 .taken)))
-
-differs-requires-2 : tie.Need-differs-requires-2
-differs-requires-2 c κs = search needs
+    (miss _ _ _ _ (p2 .if2 .left)
+    (hit _ _ _ (sym (d .before .differs .ensures) ∙ c .if3 .taken)))
 
 returns-4 : tie.Need-returns-4
 unfolding headTests
 returns-4 c =
-    let p3 = c .before .before in
-    let p2 = p3 .before .before in
-    let p1 = p2 .before .before in
+    let p3 = c .before in
+    let p2 = p3 .before in
+    let p1 = p2 .before in
+    let d = p1 .before .before in
     miss _ _ _ _ (sym (ap not (p1 .before .count-fits .ensures)) ∙ p1 .if1 .left)
-    (miss _ _ _ _ (ap not (eq-eqb _ _ (p2 .if2 .left)))
-    (miss _ _ _ _ (sym (p3 .before .differs .ensures) ∙ p3 .if3 .left)
-    (hit _ _ _ (sym (c .before .differs2 .ensures) ∙ c .if4 .taken))))
+    (miss _ _ _ _ (p2 .if2 .left)
+    (miss _ _ _ _ (sym (d .before .differs .ensures) ∙ p3 .if3 .left)
+    (hit _ _ _ (sym (d .differs2 .ensures) ∙ c .if4 .taken))))
 
 returns-5 : tie.Need-returns-5
 unfolding headTests
 returns-5 c =
     let p4 = c .before in
-    let p3 = p4 .before .before in
-    let p2 = p3 .before .before in
-    let p1 = p2 .before .before in
+    let p3 = p4 .before in
+    let p2 = p3 .before in
+    let p1 = p2 .before in
+    let d = p1 .before .before in
     miss _ _ _ _ (sym (ap not (p1 .before .count-fits .ensures)) ∙ p1 .if1 .left)
-    (miss _ _ _ _ (ap not (eq-eqb _ _ (p2 .if2 .left)))
-    (miss _ _ _ _ (sym (p3 .before .differs .ensures) ∙ p3 .if3 .left)
-    (miss _ _ _ _ (sym (p4 .before .differs2 .ensures) ∙ p4 .if4 .left)
+    (miss _ _ _ _ (p2 .if2 .left)
+    (miss _ _ _ _ (sym (d .before .differs .ensures) ∙ p3 .if3 .left)
+    (miss _ _ _ _ (sym (d .differs2 .ensures) ∙ p4 .if4 .left)
     (hit _ _ _ (ap not (le-ltb _ _ (c .if5 .taken)))))))
 
 cast-length-fits : tie.Need-cast-length-fits
@@ -72,13 +75,14 @@ unfolding headTests
 returns-6 c =
     let p5 = c .before .before in
     let p4 = p5 .before in
-    let p3 = p4 .before .before in
-    let p2 = p3 .before .before in
-    let p1 = p2 .before .before in
+    let p3 = p4 .before in
+    let p2 = p3 .before in
+    let p1 = p2 .before in
+    let d = p1 .before .before in
     miss _ _ _ _ (sym (ap not (p1 .before .count-fits .ensures)) ∙ p1 .if1 .left)
-    (miss _ _ _ _ (ap not (eq-eqb _ _ (p2 .if2 .left)))
-    (miss _ _ _ _ (sym (p3 .before .differs .ensures) ∙ p3 .if3 .left)
-    (miss _ _ _ _ (sym (p4 .before .differs2 .ensures) ∙ p4 .if4 .left)
+    (miss _ _ _ _ (p2 .if2 .left)
+    (miss _ _ _ _ (sym (d .before .differs .ensures) ∙ p3 .if3 .left)
+    (miss _ _ _ _ (sym (d .differs2 .ensures) ∙ p4 .if4 .left)
     (miss _ _ _ _ (ap not (lt-ltb _ _ (p5 .if5 .left)))
     (hit _ _ _ (sym (ap not (c .before .length-fits .ensures)) ∙ c .if6 .taken))))))
 
@@ -88,13 +92,14 @@ returns-7 c =
     let p6 = c .before in
     let p5 = p6 .before .before in
     let p4 = p5 .before in
-    let p3 = p4 .before .before in
-    let p2 = p3 .before .before in
-    let p1 = p2 .before .before in
+    let p3 = p4 .before in
+    let p2 = p3 .before in
+    let p1 = p2 .before in
+    let d = p1 .before .before in
     miss _ _ _ _ (sym (ap not (p1 .before .count-fits .ensures)) ∙ p1 .if1 .left)
-    (miss _ _ _ _ (ap not (eq-eqb _ _ (p2 .if2 .left)))
-    (miss _ _ _ _ (sym (p3 .before .differs .ensures) ∙ p3 .if3 .left)
-    (miss _ _ _ _ (sym (p4 .before .differs2 .ensures) ∙ p4 .if4 .left)
+    (miss _ _ _ _ (p2 .if2 .left)
+    (miss _ _ _ _ (sym (d .before .differs .ensures) ∙ p3 .if3 .left)
+    (miss _ _ _ _ (sym (d .differs2 .ensures) ∙ p4 .if4 .left)
     (miss _ _ _ _ (ap not (lt-ltb _ _ (p5 .if5 .left)))
     (miss _ _ _ _ (sym (ap not (p6 .before .length-fits .ensures)) ∙ p6 .if6 .left)
     (hit _ _ _ (ap not (ne-eqb _ _ (c .if7 .taken)))))))))
@@ -105,13 +110,14 @@ returns-8 c =
     let p6 = c .before in
     let p5 = p6 .before .before in
     let p4 = p5 .before in
-    let p3 = p4 .before .before in
-    let p2 = p3 .before .before in
-    let p1 = p2 .before .before in
+    let p3 = p4 .before in
+    let p2 = p3 .before in
+    let p1 = p2 .before in
+    let d = p1 .before .before in
     miss _ _ _ _ (sym (ap not (p1 .before .count-fits .ensures)) ∙ p1 .if1 .left)
-    (miss _ _ _ _ (ap not (eq-eqb _ _ (p2 .if2 .left)))
-    (miss _ _ _ _ (sym (p3 .before .differs .ensures) ∙ p3 .if3 .left)
-    (miss _ _ _ _ (sym (p4 .before .differs2 .ensures) ∙ p4 .if4 .left)
+    (miss _ _ _ _ (p2 .if2 .left)
+    (miss _ _ _ _ (sym (d .before .differs .ensures) ∙ p3 .if3 .left)
+    (miss _ _ _ _ (sym (d .differs2 .ensures) ∙ p4 .if4 .left)
     (miss _ _ _ _ (ap not (lt-ltb _ _ (p5 .if5 .left)))
     (miss _ _ _ _ (sym (ap not (p6 .before .length-fits .ensures)) ∙ p6 .if6 .left)
     (miss _ _ _ _ (ap not (eq-eqb _ _ (c .if7 .left)))
@@ -121,12 +127,12 @@ pub judge-head-spec : {M : Type 1} → statement M
 judge-head-spec =
     tie.close
     (tie.spec
+    differs-requires
+    differs-requires-2
     count-fits-requires
     returns
     returns-2
-    differs-requires
     returns-3
-    differs-requires-2
     returns-4
     returns-5
     cast-length-fits

@@ -1,6 +1,8 @@
 use Rattle.image.proofs.Calls.{turn-asked, turn-lent, turn-room, turn-read, asked-most}
-use Rattle.image.proofs.Bytes.{flip}
+use Rattle.format.proofs.Judging.{flip}
 use Rattle.image.specs.declared.Turn.{Turn}
+use Rattle.image.specs.declared.Reader.{Reader}
+use Rattle.image.specs.declared.turns.Ran.{Ran}
 use borrow.Author.Tests.{eq-eqb, ne-eqb, lt-ltb, le-ltb}
 use lib.ListN.{length}
 use native.Mathlib.Nat.{min-le-left, min-le-right}
@@ -10,6 +12,15 @@ use native.Mathlib.Omega.{arith}
 use borrow.Author.Needs.{needs}
 use Rattle.image.proofs.read_turn.Statement.{statement}
 use Rattle.image.proofs.read_turn.Tie as tie
+
+-- the answer to a turn whose blocks did this: the reader keeps its schedules
+abbrev turnAfter : Reader → Ran → Turn
+turnAfter r x = record {
+  reader = record { enc = r .enc; chk = r .chk; progress = x .progress };
+  accepted = x .accepted;
+  bytes = x .bytes;
+  stop = x .stop;
+}
 
 may-ask-requires : tie.Need-may-ask-requires
 may-ask-requires c κs = search needs
@@ -37,7 +48,13 @@ least-requires : tie.Need-least-requires
 least-requires c κs = search needs
 
 mul-if3 : tie.Need-mul-if3
-mul-if3 c = search needs
+mul-if3 c =
+    let n = c .before .before in
+    let m = n .before in
+    let a = m .before .before .before .args in
+    let x = a .asked in
+    let h = asked-most (a .reader) (a .blocks .now) x (a .output .now) (sym (m .may-ask .ensures) ∙ flip _ (n .if1 .left)) in
+    omega (arith, c .least .ensures, min-le-left x (length (a .blocks .now) / 512), h)
 
 stopped-requires-3 : tie.Need-stopped-requires-3
 stopped-requires-3 c κs = search needs
@@ -53,27 +70,27 @@ returns-3 c =
 
 turned-requires : tie.Need-turned-requires
 turned-requires c κs =
-    let p = c .before .before .before in
+    let p = c .before .before .before .before .before .before .before .before .before in
     let n = p .before in
     let m = n .before in
     let a = m .before .before .before .args in
     let x = a .asked in
     let y = length (a .blocks .now) / 512 in
     let h = asked-most (a .reader) (a .blocks .now) x (a .output .now) (sym (m .may-ask .ensures) ∙ flip _ (n .if1 .left)) in
-    omega (arith, c .before .before .least .ensures, min-le-left x y, min-le-right x y, h)
+    omega (arith, c .before .before .before .before .before .before .before .if3 .left, c .before .before .before .before .before .before .before .before .least .ensures, min-le-left x y, min-le-right x y, h)
 
 same-length : tie.Need-same-length
 same-length c = search needs
 
 returns-4 : tie.Need-returns-4
 returns-4 c =
-    let q = c .before .before .before .before in
+    let q = c .before .before .before .before .before .before .before .before .before .before .before in
     let p = q .before .before in
     let n = p .before in
     let m = n .before in
     let a = m .before .before .before .args in
     turn-read (a .reader) (a .blocks .now) (a .asked) (a .output .now) (sym (m .may-ask .ensures) ∙ flip _ (n .if1 .left)) (eq-eqb _ _ (p .if2 .left)) _ (q .before .least .ensures) (le-ltb _ _ (q .if3 .left))
-    _ _ (c .before .before .turned .ensures .0) (c .before .before .turned .ensures .1)
+    _ _ (ap (turnAfter (a .reader)) (c .before .before .before .turned .ensures .0)) (c .before .before .before .turned .ensures .1)
 
 pub read-turn-spec : {M : Type 1} → statement M
 read-turn-spec =

@@ -1,18 +1,30 @@
-use Rattle.octets.specs.Octets.{Bytes}
-use Rattle.image.proofs.Calls.{turned-by, handed-by}
+use mathlib.Core.Path.{ap, _∙_}
+use mathlib.Core.List.{List}
+use Prim.Native.Nat.{ℕ}
+use Rattle.octets.specs.Octets.{Bytes, over}
+use Rattle.format.specs.Judge.{standing}
+use Rattle.image.specs.Turn.{Reading}
+use Rattle.image.specs.Lent.{ranOf}
+use Rattle.image.proofs.Agree.{reading-is}
 use native.Mathlib.Omega.{arith}
 use borrow.Author.Needs.{needs}
 use Rattle.image.proofs.turned.Statement.{statement}
 use Rattle.image.proofs.turned.Tie as tie
 
-words-back-requires : tie.Need-words-back-requires
-words-back-requires c κs = search needs
+inverse-words-requires : tie.Need-inverse-words-requires
+inverse-words-requires c κs = search needs
 
 forward-table-requires : tie.Need-forward-table-requires
 forward-table-requires c κs = search needs
 
 inverse-table-requires : tie.Need-inverse-table-requires
 inverse-table-requires c κs = search needs
+
+key1-requires : tie.Need-key1-requires
+key1-requires c κs = search needs
+
+key2-requires : tie.Need-key2-requires
+key2-requires c κs = search needs
 
 run-requires : tie.Need-run-requires
 run-requires c κs = search needs
@@ -22,23 +34,26 @@ same-length c = search needs
 
 returns : tie.Need-returns
 returns c =
-    let rn = c .before .before .before in
-    let it = rn .before .before .before .before .before .before .before .before .before in
-    let w = it .before .before in
-    let s = w .before .before .before .before .before in
+    let rn = c .before .before in
+    let k2 = rn .before .before .before .before .before .before .before in
+    let it = k2 .before .before .before in
+    let iw = it .before .before in
+    let s = iw .before .before .before .before in
     let a = s .args in
-    let b : Bytes (a .blocks .now) = λ i. omega (arith, w .before .before .before .before .shared-slice-known .given i) in (
-      turned-by (a .reader) (a .blocks .now) (a .k) _ _ _ (it .before .forward-table .ensures) (it .inverse-table .ensures) (w .words-back .ensures) (s .pre .0) b _ (rn .run .ensures .0),
-      handed-by (a .reader) (a .blocks .now) (a .k) _ _ _ (it .before .forward-table .ensures) (it .inverse-table .ensures) (w .words-back .ensures) (s .pre .0) b (a .output .now) _ (rn .run .ensures .1),
-    )
+    let b : Bytes (a .blocks .now) = λ i. omega (arith, iw .before .before .before .shared-slice-known .given i) in
+    let e = reading-is _ _ _ _ _ (it .before .forward-table .ensures) (it .inverse-table .ensures) (a .ewords .now) (a .cwords .now) (a .rounds) (iw .inverse-words .ensures) (k2 .before .key1 .ensures) (k2 .key2 .ensures)
+    (a .k) (standing (a .progress)) (a .blocks .now) (s .pre .0) b in
+    (rn .run .ensures .0 ∙ ap ranOf e, rn .run .ensures .1 ∙ ap (λ (x : Reading). over (x .out) (a .output .now)) e)
 
 pub turned-spec : {M : Type 1} → statement M
 turned-spec =
     tie.close
     (tie.spec
-    words-back-requires
+    inverse-words-requires
     forward-table-requires
     inverse-table-requires
+    key1-requires
+    key2-requires
     run-requires
     same-length
     returns)

@@ -33,35 +33,29 @@ returns c =
       write-kept (j .judge-write .result) (a .ekey .now) (a .ckey .now) (a .number) (a .count) (a .release) (a .payload .now) (a .output .now) (c .match .keys2),
     )
 
-forward-table-requires : tie.Need-forward-table-requires
-forward-table-requires c κs = search needs
-
-cast-t24 : tie.Need-cast-t24
-cast-t24 c =
-    let j = c .before .before .before .before .before .before .before in
+cast-len : tie.Need-cast-len
+cast-len c =
+    let j = c .before .before in
     let a = j .before .before .before .before .before .before .before .before .args in
     let pa = j .judge-write .ensures ∙ ap (λ (x : Bool). writeRuled x (a .number) (a .count) (length (a .payload .now)) (length (a .output .now))) (j .before .both-taken .ensures) in
-    let f = write-fits (a .ekey .now) (a .ckey .now) _ _ (j .before .before .before .new .ensures) (j .before .before .new2 .ensures) (a .number) (a .count) (a .payload .now) (a .output .now) _ pa (c .before .before .before .before .before .enum-told .given .1) in
-    omega (arith, f .0)
+    let f = write-fits (a .ekey .now) (a .ckey .now) _ _ (j .before .before .before .new .ensures) (j .before .before .new2 .ensures) (a .number) (a .count) (a .payload .now) (a .output .now) _ pa (c .enum-told .given .1) in
+    omega (arith, f)
 
-seal-requires : tie.Need-seal-requires
-seal-requires c κs =
-    let j = c .before .before .before .before .before .before .before .before .before .before .before in
-    let a = j .before .before .before .before .before .before .before .before .args in
-    let pa = j .judge-write .ensures ∙ ap (λ (x : Bool). writeRuled x (a .number) (a .count) (length (a .payload .now)) (length (a .output .now))) (j .before .both-taken .ensures) in
-    write-fits (a .ekey .now) (a .ckey .now) _ _ (j .before .before .before .new .ensures) (j .before .before .new2 .ensures) (a .number) (a .count) (a .payload .now) (a .output .now) _ pa (c .before .before .before .before .before .before .before .before .before .enum-told .given .1)
+seal-under-requires : tie.Need-seal-under-requires
+seal-under-requires c κs = search needs
 
 same-length : tie.Need-same-length
 same-length c = search needs
 
 returns-2 : tie.Need-returns-2
 returns-2 c =
-    let j = c .before .before .before .before .before .before .before .before .before .before .before .before .before .before in
+    let t = c .before .before .before .before .before .before .before .before in
+    let j = t .before .before in
     let a = j .before .before .before .before .before .before .before .before .args in
     let pa = j .judge-write .ensures ∙ ap (λ (x : Bool). writeRuled x (a .number) (a .count) (length (a .payload .now)) (length (a .output .now))) (j .before .both-taken .ensures) in
     let bp : Bytes (a .payload .now) = λ i. omega (arith, j .before .before .before .before .before .shared-slice-known3 .given i) in (
       write-answered (a .ekey .now) (a .ckey .now) _ _ (j .before .before .before .new .ensures) (j .before .before .new2 .ensures) (a .number) (a .count) (a .payload .now) (a .output .now) _ pa,
-      written-by (a .ekey .now) (a .ckey .now) _ _ (j .before .before .before .new .ensures) (j .before .before .new2 .ensures) (a .number) (a .count) (a .payload .now) (a .output .now) _ pa (a .release) _ _ (c .before .before .before .before .before .before .before .before .before .before .before .forward-table .ensures) bp (c .before .before .before .before .before .before .before .before .before .before .before .before .enum-told .given .1) (c .before .before .seal .ensures),
+      written-by (a .ekey .now) (a .ckey .now) _ _ (j .before .before .before .new .ensures) (j .before .before .new2 .ensures) (a .number) (a .count) (a .payload .now) (a .output .now) _ pa (a .release) _ bp (t .enum-told .given .1) (c .before .before .seal-under .ensures),
     )
 
 pub write-spec : {M : Type 1} → statement M
@@ -74,8 +68,7 @@ write-spec =
     judge-write-requires
     enum-told
     returns
-    forward-table-requires
-    cast-t24
-    seal-requires
+    cast-len
+    seal-under-requires
     same-length
     returns-2)

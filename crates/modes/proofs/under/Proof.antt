@@ -28,13 +28,13 @@ same-length c = search needs
 returns : tie.Need-returns
 returns c =
     let k = c .before .before .before .before .before .before in
-    let a = k .before .before .before .before .before .before .args in
+    let a = k .before .before .before .before .before .before .before .args in
     let w = now (a .words) in
     c .before .before .run .ensures
     ∙ ap₂ (λ (t v : List ℕ). through (oneTable t v (a .rounds)) (a .operation) (a .iv) (now (a .input)) (now (a .output)))
-    (k .before .inverse-table .ensures) (k .inverse-words .ensures)
+    (k .before .before .inverse-table .ensures) (k .inverse-words .ensures)
     ∙ through-backward forwardTable inverseTable w (inverseWords w (a .rounds)) (a .rounds) (a .operation) (a .iv) (now (a .input)) (now (a .output))
-    (sym (k .before .before .before .inverts .ensures) ∙ k .before .before .if1 .taken)
+    (sym (k .before .before .before .before .inverts .ensures) ∙ k .before .before .before .if1 .taken)
 
 forward-table-requires : tie.Need-forward-table-requires
 forward-table-requires c κs = search needs

@@ -31,7 +31,7 @@ inverse-table-requires c κs = search needs
 
 unwrap-into-requires : tie.Need-unwrap-into-requires
 unwrap-into-requires c κs =
-    let e = c .before .before .before .before .before .before in
+    let e = c .before .before .before .before .before .before .before in
     let j = e .before .before in
     let w = j .before .before .before in
     let a = w .before .before .before .before .args in
@@ -45,7 +45,7 @@ returns-2 c =
     let i = c .before .before in
     let t = i .before .before .before .before in
     let v = t .before in
-    let e = v .before .before in
+    let e = v .before .before .before in
     let j = e .before .before in
     let w = j .before .before .before in
     let a = w .before .before .before .before .args in

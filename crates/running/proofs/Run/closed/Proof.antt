@@ -1,5 +1,5 @@
 use mathlib.Core.Path.{_∙_}
-use Rattle.sp800_38b.specs.Cmac.{ended}
+use Rattle.sp800_38b.specs.Cmac.{endedBy}
 use Rattle.running.specs.Running as running
 use borrow.Author.Needs.{needs}
 use Rattle.running.proofs.Run.closed.Statement.{statement}
@@ -15,7 +15,7 @@ encrypt-block-requires : tie.Need-encrypt-block-requires
 encrypt-block-requires c κs = search needs
 
 returns : tie.Need-returns
-unfolding running.closed ended
+unfolding running.closedBy endedBy
 returns c = c .encrypt-block .ensures ∙ rw (c .before .xor .ensures, c .before .before .last .ensures)
 
 pub closed-spec : {M : Type 1} → statement M

@@ -1,0 +1,5 @@
+pub mod Sizes
+pub mod Opening
+pub mod Sealing
+pub mod Judging
+pub mod Agree
