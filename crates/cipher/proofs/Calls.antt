@@ -13,8 +13,8 @@ use Rattle.schedule.specs.declared.Expanded.{Expanded}
 use Rattle.cipher.specs.declared.Ciphered.{Ciphered}
 use Rattle.fips197.specs.Cipher.{rounds}
 use Rattle.cipher.specs.Calls.{encryptUnder, decryptUnder}
-use Rattle.lookups.specs.Tables.{tableEncrypt, tableDecrypt, inverseWord, inverseWords}
-use Rattle.lookups.proofs.Tables.{encrypt-table, decrypt-table}
+use Rattle.lookups.specs.Lookups.{tableEncrypt, tableDecrypt, inverseWord, inverseWords}
+use Rattle.lookups.proofs.Lookups.{encrypt-table, decrypt-table}
 use Rattle.tables.specs.Tables.{forwardTable, inverseTable}
 
 module _ (key : List ℕ) {b : List ℕ} (o : Octets 16 b) where

@@ -14,7 +14,7 @@ ghost use lib.ListN.{length};
 ghost use Rattle.octets.specs.Octets.{choose};
 ghost use Rattle.schedule.specs.Schedule.{roundCount};
 ghost use Rattle.cipher.specs.Calls.{encryptUnder, decryptUnder};
-ghost use Rattle.lookups.specs.Tables.{inverseWord, inverseWords};
+ghost use Rattle.lookups.specs.Lookups.{inverseWord, inverseWords};
 
 // The answer for the key, and the block: zeros where the key was refused.
 pub struct Ciphered {

@@ -8,9 +8,9 @@ use Rattle.octets.specs.Octets.{joined}
 use Rattle.sbox.specs.Sbox.{sBox}
 use Rattle.schedule.specs.Schedule.{scheduleOf, roundCount}
 use Rattle.fips197.specs.Cipher.{encryptBlock, standard}
-use Rattle.lookups.specs.Tables.{tableEncrypt, oneTable}
+use Rattle.lookups.specs.Lookups.{tableEncrypt, oneTable}
 use Rattle.sp800_38b.specs.Cmac.{ended, cmac}
-use Rattle.running.specs.Running.{takenIn, closed}
+use Rattle.running.specs.Running.{runFrom, closed}
 use Rattle.cmac.specs.Calls.{checkOf, recordOf, startOf, fedWith, closeOf, fedParts}
 use Rattle.running.specs.declared.Run.{Run}
 use Rattle.cmac.specs.declared.Record.{Record}
@@ -19,7 +19,7 @@ use Rattle.running.proofs.Laws.{fed-taken, begun-taken, whole}
 module _ (w : List ℕ) (nr : ℕ) where
   -- a record under a schedule, by the bytes that it was fed
   after : List ℕ → Record
-  after s = recordOf w nr (takenIn (standard w nr) (replicate 16 0) s)
+  after s = recordOf w nr (runFrom (standard w nr) (replicate 16 0) s)
 
   after-part : (s part : List ℕ) → fedWith (after s) part ≡ after (s ++ part)
   unfolding after fedWith

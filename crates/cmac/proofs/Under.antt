@@ -11,7 +11,7 @@ use Rattle.schedule.specs.Schedule.{scheduleOf, roundCount}
 use Rattle.schedule.specs.declared.Expanded.{Expanded}
 use Rattle.fips197.specs.State.{aes}
 use Rattle.fips197.specs.Cipher.{cipher, encryptBlock, standard}
-use Rattle.lookups.specs.Tables.{oneTable}
+use Rattle.lookups.specs.Lookups.{oneTable}
 use Rattle.tables.specs.Tables.{forwardTable}
 use Rattle.fips197.proofs.Undo.{cipher-block}
 use Rattle.lookups.proofs.Lawful.{lent-agrees}

@@ -4,7 +4,7 @@ use schedule::KeyAnswer;
 use schedule::KeySchedule;
 use tables::forward_table;
 ghost use mathlib.Core.Path.{_≡_};
-ghost use Rattle.lookups.specs.Tables.{oneTable};
+ghost use Rattle.lookups.specs.Lookups.{oneTable};
 ghost use Rattle.sp800_38b.specs.Cmac as spec;
 ghost use Rattle.running.specs.Running as running;
 ghost use Rattle.cmac.specs.Calls as calls;

@@ -15,7 +15,7 @@ use Rattle.schedule.specs.Schedule.{roundCount}
 use Rattle.fips197.specs.Cipher.{standard}
 use Rattle.fips197.proofs.Aes.{aes-lawful}
 use Rattle.tables.specs.Tables.{forwardTable, inverseTable}
-use Rattle.lookups.specs.Tables.{tableCipher, oneTable, inverseWords}
+use Rattle.lookups.specs.Lookups.{tableCipher, oneTable, inverseWords}
 use Rattle.lookups.proofs.Lawful.{Agree, lent-agrees}
 use Rattle.sp800_38a.specs.Modes.{machine, moded}
 use Rattle.sp800_38a.specs.declared.Operation.the-variants.{CbcEncrypt, CbcDecrypt}

@@ -12,7 +12,7 @@ use Rattle.octets.specs.Octets.{over}
 use Rattle.octets.specs.Blocks.{_⊕_, BlockCipher}
 use Rattle.blocks.specs.Blocks.{blockAt}
 use Rattle.blocks.proofs.Laws.{block-at}
-use Rattle.sp800_38a.specs.Pieces.{made, after, piece}
+use Rattle.sp800_38a.specs.Pieces.{outputOf, after, piece}
 use Rattle.sp800_38a.specs.Modes.{machine, moded}
 use Rattle.sp800_38a.specs.Equations.{previous}
 use Rattle.sp800_38a.specs.declared.Operation.the-variants.{CbcDecrypt}
@@ -90,10 +90,10 @@ middle-of x k h = ap (drop k) (take-add k 16 x) ∙ drop-at (take k x) (take 16 
 
 -- what is left to decrypt of a block from piece i on, where that is chained to a value
 unfoldable pub left : BlockCipher → List ℕ → ℕ → List ℕ → List ℕ
-left c b i chain = made 16 (machine c CbcDecrypt) chain (30 - i) (drop (i * 16) (take 480 (drop 16 b)))
+left c b i chain = outputOf 16 (machine c CbcDecrypt) chain (30 - i) (drop (i * 16) (take 480 (drop 16 b)))
 
 pub fill-end : (c : BlockCipher) (b : List ℕ) (i from : ℕ) (chain : List ℕ) → 30 ≤ i → true ≡ allZero (drop from (left c b i chain))
-unfolding left made
+unfolding left outputOf
 fill-end c b i from chain h =
     let n : 30 - i ≡ 0 = omega arith in
     rw n (zero-end [] from (omega arith))
@@ -132,18 +132,18 @@ module _ (b : List ℕ) (size : length b ≡ 512) where
         let i = len / 16 in
         let n : i + (30 - i) ≡ 30 = omega arith in
         let k : i * 16 + len % 16 ≡ len = omega arith in
-        let x = made 16 m iv i body in
-        let y = made 16 m (after 16 m iv i body) (30 - i) (drop (i * 16) body) in
-        let split : opened c b ≡ x ++ y = opened-made b size c ∙ ap (λ (j : ℕ). made 16 m iv j body) (sym n) ∙ made-split 16 m i (30 - i) iv body in
+        let x = outputOf 16 m iv i body in
+        let y = outputOf 16 m (after 16 m iv i body) (30 - i) (drop (i * 16) body) in
+        let split : opened c b ≡ x ++ y = opened-made b size c ∙ ap (λ (j : ℕ). outputOf 16 m iv j body) (sym n) ∙ made-split 16 m i (30 - i) iv body in
         let l : length x ≡ i * 16 = made-size c ds i iv body (es (take 16 b)) (omega (arith, body-length b size)) in
         let d : drop len (opened c b) ≡ drop (len % 16) y =
         ap₂ (λ (j : ℕ) (s : List ℕ). drop j s) (sym k) split ∙ sym (drop-drop (len % 16) (i * 16) (x ++ y)) ∙ ap (drop (len % 16)) (drop-at x y (i * 16) l) in
-        ap (λ (s : List ℕ). allZero (drop (len % 16) (made 16 m s (30 - i) (drop (i * 16) body)))) (e ∙ chain-after iv body i) ∙ sym (ap allZero d)
+        ap (λ (s : List ℕ). allZero (drop (len % 16) (outputOf 16 m s (30 - i) (drop (i * 16) body)))) (e ∙ chain-after iv body i) ∙ sym (ap allZero d)
 
     -- one piece more
     module _ (i from : ℕ) (chain p out next : List ℕ) (h : i < 30) (f : from < 16) (ep : p ≡ blockAt b (16 + 16 * i)) (eo : out ≡ c .dec p ⊕ chain) (lo : length out ≡ 16) (en : next ≡ p) where
       left-step : left c b i chain ≡ out ++ left c b (i + 1) next
-      unfolding left made
+      unfolding left outputOf
       left-step =
           let body = take 480 (drop 16 b) in
           let n : 30 - i ≡ suc (30 - (i + 1)) = omega arith in

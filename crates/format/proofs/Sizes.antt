@@ -13,9 +13,9 @@ use Rattle.octets.proofs.Blocks.{⊕-length}
 use Rattle.blocks.proofs.Laws.{same-true}
 use Rattle.schedule.specs.Schedule.{roundCount}
 use Rattle.lookups.specs.Columns.{blockOf, columnsOf}
-use Rattle.lookups.specs.Tables.{tableEncrypt, tableDecrypt, tableForth, tableBack}
+use Rattle.lookups.specs.Lookups.{tableEncrypt, tableDecrypt, tableForth, tableBack}
 use Rattle.lookups.specs.declared.Columns.{Columns}
-use Rattle.sp800_38a.specs.Pieces.{made}
+use Rattle.sp800_38a.specs.Pieces.{outputOf}
 use Rattle.sp800_38a.specs.Modes.{machine}
 use Rattle.sp800_38a.specs.declared.Operation.the-variants.{CbcDecrypt}
 use Rattle.sp800_38a.proofs.Pieces.{count-whole}
@@ -46,12 +46,12 @@ module _ (t : ℕ → ℕ) (w : List ℕ) (nr : ℕ) where
 
 module _ (c : BlockCipher) (sized : Sixteen (c .dec)) where
   -- n pieces of CBC decryption
-  pub made-size : (n : ℕ) (st s : List ℕ) → length st ≡ 16 → n * 16 ≤ length s → length (made 16 (machine c CbcDecrypt) st n s) ≡ n * 16
-  unfolding made
+  pub made-size : (n : ℕ) (st s : List ℕ) → length st ≡ 16 → n * 16 ≤ length s → length (outputOf 16 (machine c CbcDecrypt) st n s) ≡ n * 16
+  unfolding outputOf
   made-size zero st s h l = refl
   made-size (suc n) st s h l =
       let p = take 16 s in
-      length-append (c .dec p ⊕ st) (made 16 (machine c CbcDecrypt) p n (drop 16 s))
+      length-append (c .dec p ⊕ st) (outputOf 16 (machine c CbcDecrypt) p n (drop 16 s))
       ∙ omega (arith, ⊕-length (c .dec p) st (omega (arith, sized p)), sized p, made-size n p (drop 16 s) (length-take-le 16 s (omega arith)) (omega (arith, length-drop 16 s)))
 
 module _ (b : List ℕ) (size : length b ≡ 512) where
@@ -59,10 +59,10 @@ module _ (b : List ℕ) (size : length b ≡ 512) where
   body-length = length-take-le 480 (drop 16 b) (omega (arith, length-drop 16 b))
 
   -- thirty pieces
-  pub opened-made : (c : BlockCipher) → opened c b ≡ made 16 (machine c CbcDecrypt) (c .enc (take 16 b)) 30 (take 480 (drop 16 b))
+  pub opened-made : (c : BlockCipher) → opened c b ≡ outputOf 16 (machine c CbcDecrypt) (c .enc (take 16 b)) 30 (take 480 (drop 16 b))
   unfolding opened
   opened-made c =
-      ap (λ (n : ℕ). made 16 (machine c CbcDecrypt) (c .enc (take 16 b)) n (take 480 (drop 16 b))) (count-whole 16 30 (take 480 (drop 16 b)) (omega arith) body-length)
+      ap (λ (n : ℕ). outputOf 16 (machine c CbcDecrypt) (c .enc (take 16 b)) n (take 480 (drop 16 b))) (count-whole 16 30 (take 480 (drop 16 b)) (omega arith) body-length)
 
   pub opened-size : (c : BlockCipher) → Sixteen (c .enc) → Sixteen (c .dec) → length (opened c b) ≡ 480
   opened-size c es ds = ap length (opened-made c) ∙ made-size c ds 30 (c .enc (take 16 b)) (take 480 (drop 16 b)) (es (take 16 b)) (omega (arith, body-length))

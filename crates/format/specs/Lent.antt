@@ -9,7 +9,7 @@ use Rattle.octets.specs.Octets.{choose, over}
 use Rattle.octets.specs.Blocks.{BlockCipher}
 use Rattle.blocks.specs.Blocks.{blockAt}
 use Rattle.schedule.specs.Schedule.{roundCount}
-use Rattle.lookups.specs.Tables.{tableCipher, oneTable}
+use Rattle.lookups.specs.Lookups.{tableCipher, oneTable}
 use Rattle.sp800_38b.specs.Cmac.{cmacBy}
 use Rattle.header.specs.Layout.{bodySize, blockSize, headOf}
 use Rattle.header.specs.declared.Head.{Head}

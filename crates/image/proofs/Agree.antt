@@ -7,7 +7,7 @@ use lib.ListN.{length, take, drop, length-drop}
 use Rattle.octets.specs.Octets.{Bytes, Octets}
 use Rattle.octets.proofs.Blocks.{drop-bytes, take-octets}
 use Rattle.tables.specs.Tables.{forwardTable, inverseTable}
-use Rattle.lookups.specs.Tables.{oneTable, inverseWords}
+use Rattle.lookups.specs.Lookups.{oneTable, inverseWords}
 use Rattle.sp800_38b.specs.Cmac.{doubled, key1, key2}
 use Rattle.header.specs.Layout.{headOf}
 use Rattle.header.specs.declared.Verdict.{Verdict}
@@ -18,13 +18,13 @@ use Rattle.format.specs.Lent.{lentKeys}
 use Rattle.format.specs.declared.Rounds.{Rounds}
 use Rattle.format.proofs.Agree.{verdict-same, plain-same}
 use Rattle.image.specs.Calls.{keysUnder}
-use Rattle.image.specs.Turn.{Reading, onward, ran, cut}
+use Rattle.image.specs.Turn.{Reading, onward, readBlocks, cut}
 
 -- two readers that give every block the same verdict, and open alike what they accept
 module _ (d e : BlockReader) (verdicts : (s : Standing) (b : List ℕ) → Octets 512 b → d .verdict s b ≡ e .verdict s b)
     (plains : (s : Standing) (b : List ℕ) → Octets 512 b → e .verdict s b ≡ Accepted → d .plain b ≡ e .plain b) where
-  read-same : (k : ℕ) (s : Standing) (bl : List ℕ) → k * 512 ≤ length bl → Bytes bl → ran d s (cut k bl) ≡ ran e s (cut k bl)
-  unfolding ran cut
+  read-same : (k : ℕ) (s : Standing) (bl : List ℕ) → k * 512 ≤ length bl → Bytes bl → readBlocks d s (cut k bl) ≡ readBlocks e s (cut k bl)
+  unfolding readBlocks cut
   read-same zero s bl h bytes = refl
   read-same (suc k) s bl h bytes =
       let ih = read-same k (taken s b) (drop 512 bl) (omega (arith, length-drop 512 bl)) (drop-bytes 512 bl bytes) in
@@ -36,8 +36,8 @@ module _ (d e : BlockReader) (verdicts : (s : Standing) (b : List ℕ) → Octet
       o : Octets 512 b
       o = take-octets 512 bl (omega arith) bytes
 
-      go : (v : Verdict) → e .verdict s b ≡ v → ran d (taken s b) (cut k (drop 512 bl)) ≡ ran e (taken s b) (cut k (drop 512 bl))
-          → onward v s (headOf b .len) (d .plain b) (ran d (taken s b) (cut k (drop 512 bl))) ≡ onward v s (headOf b .len) (e .plain b) (ran e (taken s b) (cut k (drop 512 bl)))
+      go : (v : Verdict) → e .verdict s b ≡ v → readBlocks d (taken s b) (cut k (drop 512 bl)) ≡ readBlocks e (taken s b) (cut k (drop 512 bl))
+          → onward v s (headOf b .len) (d .plain b) (readBlocks d (taken s b) (cut k (drop 512 bl))) ≡ onward v s (headOf b .len) (e .plain b) (readBlocks e (taken s b) (cut k (drop 512 bl)))
       go Accepted q ih = ap₂ (λ (x : List ℕ) (t : Reading). onward Accepted s (headOf b .len) x t) (plains s b o q) ih
       go (Refused reason) q ih = refl
 
@@ -47,8 +47,8 @@ module _ (t t' : List ℕ) (pt : t ≡ forwardTable) (pi : t' ≡ inverseTable) 
   none i = omega arith
 
   pub ran-same : (k : ℕ) (s : Standing) (bl : List ℕ) → k * 512 ≤ length bl → Bytes bl
-      → ran (ofEdition (lentKeys t t' ew dw cw k1 k2 n) one) s (cut k bl)
-      ≡ ran (ofEdition (keysUnder ew cw n) one) s (cut k bl)
+      → readBlocks (ofEdition (lentKeys t t' ew dw cw k1 k2 n) one) s (cut k bl)
+      ≡ readBlocks (ofEdition (keysUnder ew cw n) one) s (cut k bl)
   ran-same =
       read-same (ofEdition (lentKeys t t' ew dw cw k1 k2 n) one) (ofEdition (keysUnder ew cw n) one)
       (λ s b o. verdict-same t t' pt pi ew dw cw k1 k2 n pd p1 p2 one s none b o) (λ s b o. plain-same t t' pt pi ew dw cw k1 k2 n pd p1 p2 one s none b o)
@@ -56,6 +56,6 @@ module _ (t t' : List ℕ) (pt : t ≡ forwardTable) (pi : t' ≡ inverseTable) 
 -- over the tables and the subkeys that the call makes
 module _ (t t' dw k1 k2 : List ℕ) (pt : t ≡ forwardTable) (pi : t' ≡ inverseTable) (ew cw : List ℕ) (n : Rounds) (pd : dw ≡ inverseWords ew (n .enc))
     (p1 : k1 ≡ key1 (oneTable t cw (n .chk))) (p2 : k2 ≡ doubled k1) (k : ℕ) (s : Standing) (bl : List ℕ) (h : k * 512 ≤ length bl) (b : Bytes bl) where
-  pub reading-is : ran (ofEdition (lentKeys t t' ew dw cw k1 k2 n) one) s (cut k bl) ≡ ran (ofEdition (keysUnder ew cw n) one) s (cut k bl)
+  pub reading-is : readBlocks (ofEdition (lentKeys t t' ew dw cw k1 k2 n) one) s (cut k bl) ≡ readBlocks (ofEdition (keysUnder ew cw n) one) s (cut k bl)
   unfolding key2
   reading-is = ran-same t t' pt pi ew dw cw k1 k2 n pd p1 (p2 ∙ ap doubled p1) k s bl h b

@@ -15,11 +15,11 @@ use Rattle.header.specs.declared.Verdict.{Verdict}
 use Rattle.header.specs.declared.Verdict.the-variants.{Accepted, Refused}
 use Rattle.format.specs.Edition.{one}
 use Rattle.format.specs.Judge.{Keys, Standing, standing, advanced, taken, judge, BlockReader, ofEdition}
-use Rattle.image.specs.Turn.{Reading, later, onward, ran, cut}
-use Rattle.image.specs.Lent.{following, ranWith, ranOf}
+use Rattle.image.specs.Turn.{Reading, later, onward, readBlocks, cut}
+use Rattle.image.specs.Lent.{following, blocksReadWith, blocksRead}
 use Rattle.image.specs.declared.Stop.{Stop}
 use Rattle.image.specs.declared.Stop.the-variants.{End, Asked, Lent, Room, At}
-use Rattle.image.specs.declared.turns.Ran.{Ran}
+use Rattle.image.specs.declared.turns.BlocksRead.{BlocksRead}
 
 -- a place counted from j blocks earlier
 laterBy : ℕ → Stop → Stop
@@ -46,13 +46,13 @@ later-none Lent = refl
 later-none Room = refl
 
 -- a reading of the rest, after j blocks with so many bytes that left this output
-pub finish : (j bytes : ℕ) → List ℕ → Reading → Ran × List ℕ
+pub finish : (j bytes : ℕ) → List ℕ → Reading → BlocksRead × List ℕ
 finish j bytes out t = (
-  ranWith (t .standing .progress) (j + t .accepted) (bytes + t .bytes) (laterBy j (t .stop)),
+  blocksReadWith (t .standing .progress) (j + t .accepted) (bytes + t .bytes) (laterBy j (t .stop)),
   take (j * 480) out ++ (t .out ++ drop (j * 480 + length (t .out)) out),
 )
 
-pub finish-start : (out : List ℕ) (t : Reading) → finish 0 0 out t ≡ (ranOf t, over (t .out) out)
+pub finish-start : (out : List ℕ) (t : Reading) → finish 0 0 out t ≡ (blocksRead t, over (t .out) out)
 unfolding finish
 finish-start out t = rw (zero-add (t .accepted), zero-add (t .bytes), later-none (t .stop), zero-add (length (t .out)))
 
@@ -60,15 +60,15 @@ module _ (j bytes : ℕ) (out : List ℕ) (s : Standing) where
   all-back : take (j * 480) out ++ drop (j * 480 + 0) out ≡ out
   all-back = ap (λ (n : ℕ). take (j * 480) out ++ drop n out) (add-zero (j * 480)) ∙ take-append-drop (j * 480) out
 
-  finish-none : (x y : Stop) → laterBy j x ≡ y → finish j bytes out (record { standing = s; accepted = 0; bytes = 0; stop = x; out = [] }) ≡ (ranWith (s .progress) j bytes y, out)
+  finish-none : (x y : Stop) → laterBy j x ≡ y → finish j bytes out (record { standing = s; accepted = 0; bytes = 0; stop = x; out = [] }) ≡ (blocksReadWith (s .progress) j bytes y, out)
   unfolding finish
-  finish-none x y e = rw (add-zero j, add-zero bytes, e) (ap (λ (o : List ℕ). (ranWith (s .progress) j bytes y, o)) all-back)
+  finish-none x y e = rw (add-zero j, add-zero bytes, e) (ap (λ (o : List ℕ). (blocksReadWith (s .progress) j bytes y, o)) all-back)
 
-  finish-end : finish j bytes out (record { standing = s; accepted = 0; bytes = 0; stop = End; out = [] }) ≡ (ranWith (s .progress) j bytes End, out)
+  finish-end : finish j bytes out (record { standing = s; accepted = 0; bytes = 0; stop = End; out = [] }) ≡ (blocksReadWith (s .progress) j bytes End, out)
   unfolding laterBy
   finish-end = finish-none End End refl
 
-  finish-refused : (reason : Reason) → finish j bytes out (record { standing = s; accepted = 0; bytes = 0; stop = At 0 reason; out = [] }) ≡ (ranWith (s .progress) j bytes (At j reason), out)
+  finish-refused : (reason : Reason) → finish j bytes out (record { standing = s; accepted = 0; bytes = 0; stop = At 0 reason; out = [] }) ≡ (blocksReadWith (s .progress) j bytes (At j reason), out)
   unfolding laterBy
   finish-refused reason = finish-none (At 0 reason) (At j reason) (ap (λ (n : ℕ). At n reason) (add-zero j))
 
@@ -96,7 +96,7 @@ module _ (j bytes : ℕ) (out : List ℕ) (s : Standing) where
     finish-accepted =
         let e : j + suc (t .accepted) ≡ j + 1 + t .accepted = omega arith in
         let f : bytes + (len + t .bytes) ≡ bytes + len + t .bytes = omega arith in
-        rw (e, f, later-one j (t .stop)) (ap (λ (o : List ℕ). (ranWith (t .standing .progress) (j + 1 + t .accepted) (bytes + len + t .bytes) (laterBy (j + 1) (t .stop)), o)) out-accepted)
+        rw (e, f, later-one j (t .stop)) (ap (λ (o : List ℕ). (blocksReadWith (t .standing .progress) (j + 1 + t .accepted) (bytes + len + t .bytes) (laterBy (j + 1) (t .stop)), o)) out-accepted)
 
 -- ---- one block more
 
@@ -106,13 +106,13 @@ Forgets d = (s : Progress) (x y b : List ℕ) → d .verdict (record { progress 
 
 module _ (d : BlockReader) (f : Forgets d) where
   finish-forgets : (j bytes : ℕ) (out : List ℕ) (s : Progress) (x y : List ℕ) (bs : List (List ℕ))
-      → finish j bytes out (ran d (record { progress = s; last = x }) bs) ≡ finish j bytes out (ran d (record { progress = s; last = y }) bs)
-  unfolding ran finish
+      → finish j bytes out (readBlocks d (record { progress = s; last = x }) bs) ≡ finish j bytes out (readBlocks d (record { progress = s; last = y }) bs)
+  unfolding readBlocks finish
   finish-forgets j bytes out s x y [] = refl
   finish-forgets j bytes out s x y (b ∷ bs) = rw (f s x y b) (go (d .verdict (record { progress = s; last = y }) b))
     where
       t : Reading
-      t = ran d (record { progress = advanced s (headOf b); last = drop 496 b }) bs
+      t = readBlocks d (record { progress = advanced s (headOf b); last = drop 496 b }) bs
 
       go : (v : Verdict) → finish j bytes out (onward v (record { progress = s; last = x }) (headOf b .len) (d .plain b) t)
           ≡ finish j bytes out (onward v (record { progress = s; last = y }) (headOf b .len) (d .plain b) t)
@@ -126,24 +126,24 @@ part-is bl j =
 
 module _ (d : BlockReader) (bl : List ℕ) (s : Progress) (j n bytes : ℕ) (out : List ℕ) where
   left : ℕ → Standing → Reading
-  left i p = ran d p (cut (n - i) (drop (i * 512) bl))
+  left i p = readBlocks d p (cut (n - i) (drop (i * 512) bl))
 
-  pub left-end : n ≤ j → (ranWith s j bytes End, out) ≡ finish j bytes out (ran d (standing s) (cut (n - j) (drop (j * 512) bl)))
-  unfolding ran cut
+  pub left-end : n ≤ j → (blocksReadWith s j bytes End, out) ≡ finish j bytes out (readBlocks d (standing s) (cut (n - j) (drop (j * 512) bl)))
+  unfolding readBlocks cut
   left-end h =
       let e : n - j ≡ 0 = omega arith in
       rw e (sym (finish-end j bytes out (standing s)))
 
   module _ (h : j < n) (b : List ℕ) (eb : b ≡ take 512 (drop (j * 512) bl)) (v : Verdict) (ev : v ≡ d .verdict (standing s) b) where
     left-step : left j (standing s) ≡ onward v (standing s) (headOf b .len) (d .plain b) (left (j + 1) (taken (standing s) b))
-    unfolding left ran cut
+    unfolding left readBlocks cut
     left-step =
         let e : n - j ≡ suc (n - (j + 1)) = omega arith in
         let i : (j + 1) * 512 ≡ j * 512 + 512 = omega arith in
         let q : drop ((j + 1) * 512) bl ≡ drop 512 (drop (j * 512) bl) = ap (λ (m : ℕ). drop m bl) i ∙ sym (drop-drop 512 (j * 512) bl) in
         rw (e, q, ev, eb)
 
-    pub step-refused : (reason : Reason) → v ≡ Refused reason → (ranWith s j bytes (At j reason), out) ≡ finish j bytes out (ran d (standing s) (cut (n - j) (drop (j * 512) bl)))
+    pub step-refused : (reason : Reason) → v ≡ Refused reason → (blocksReadWith s j bytes (At j reason), out) ≡ finish j bytes out (readBlocks d (standing s) (cut (n - j) (drop (j * 512) bl)))
     unfolding left
     step-refused reason e =
         let q : left j (standing s) ≡ record { standing = standing s; accepted = 0; bytes = 0; stop = At 0 reason; out = [] } =
@@ -152,7 +152,7 @@ module _ (d : BlockReader) (bl : List ℕ) (s : Progress) (j n bytes : ℕ) (out
 
     pub step-accepted : Forgets d → v ≡ Accepted → length (d .plain b) ≡ 480 → j * 480 + 480 ≤ length out → s .next < 65535
         → (head : Head) (next : Progress) (new : List ℕ) → head ≡ headOf b → next ≡ following s head → new ≡ take (j * 480) out ++ (d .plain b ++ drop (j * 480 + 480) out)
-        → finish (j + 1) (bytes + head .len) new (ran d (standing next) (cut (n - (j + 1)) (drop ((j + 1) * 512) bl))) ≡ finish j bytes out (ran d (standing s) (cut (n - j) (drop (j * 512) bl)))
+        → finish (j + 1) (bytes + head .len) new (readBlocks d (standing next) (cut (n - (j + 1)) (drop ((j + 1) * 512) bl))) ≡ finish j bytes out (readBlocks d (standing s) (cut (n - j) (drop (j * 512) bl)))
     unfolding left
     step-accepted f e size room small head next new eh en eo =
         let k : (s .next + 1) % 4294967296 ≡ s .next + 1 = omega arith in

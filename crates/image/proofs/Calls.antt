@@ -14,7 +14,7 @@ use Rattle.sbox.specs.Sbox.{sBox}
 use Rattle.schedule.specs.Schedule.{scheduleOf, keyNumber}
 use Rattle.schedule.specs.declared.Expanded.{Expanded}
 use Rattle.schedule.specs.declared.KeyAnswer.the-variants.{Taken, KeyLength}
-use Rattle.lookups.specs.Tables.{oneTable, inverseWords}
+use Rattle.lookups.specs.Lookups.{oneTable, inverseWords}
 use Rattle.tables.specs.Tables.{forwardTable, inverseTable}
 use Rattle.fips197.proofs.Aes.{key-lawful}
 use Rattle.header.specs.Rules.{countFits, lengthFits}
@@ -23,16 +23,16 @@ use Rattle.format.specs.Sealed.{headFor}
 use Rattle.format.specs.Judge.{standing, ofEdition}
 use Rattle.format.specs.Lent.{sealedOver}
 use Rattle.format.proofs.Agree.{sealed-same}
-use Rattle.image.specs.Turn.{Reading, ran, cut}
-use Rattle.image.specs.Calls.{bothTaken, writeRuled, writeAnswer, writeOutput, noSchedule, startWith, startOf, blocksBy, handled, whole, turned, turnOf}
-use Rattle.image.specs.Lent.{sealedUnder, ranOf}
+use Rattle.image.specs.Turn.{Reading, readBlocks, cut}
+use Rattle.image.specs.Calls.{bothTaken, writeRuled, writeAnswer, writeOutput, noSchedule, startWith, startOf, blocksBy, handled, whole, turnAfter, turnOf}
+use Rattle.image.specs.Lent.{sealedUnder, blocksRead}
 use Rattle.image.specs.declared.WriteAnswer.{WriteAnswer}
 use Rattle.image.specs.declared.WriteAnswer.the-variants.{Written, WriteKey, WriteCount, WriteNumber, WriteLength, WriteRoom}
 use Rattle.image.specs.declared.Reader.{Reader}
 use Rattle.image.specs.declared.ReadStarted.{ReadStarted}
 use Rattle.image.specs.declared.Stop.the-variants.{Asked, Lent, Room}
 use Rattle.image.specs.declared.Turn.{Turn}
-use Rattle.image.specs.declared.turns.Ran.{Ran}
+use Rattle.image.specs.declared.turns.BlocksRead.{BlocksRead}
 use Rattle.image.proofs.WriteAnswer.{the-type}
 use Rattle.image.proofs.Agree.{ran-same}
 
@@ -60,8 +60,8 @@ module _ (r : Reader) (given : List ℕ) (asked : ℕ) (out : List ℕ) where
       unfolding turnOf
       turn-room e3 = let f : ltb (length out) (handled given asked * 480) ≡ true = rw (← ek) e3 in rw (e1, e2, f)
 
-      pub turn-read : ltb (length out) (k * 480) ≡ false → (t : Turn) (o : List ℕ) → t ≡ turned r (ran (blocksBy r) (standing (r .progress)) (cut k given))
-          → o ≡ over (ran (blocksBy r) (standing (r .progress)) (cut k given) .out) out → (t, o) ≡ turnOf r given asked out
+      pub turn-read : ltb (length out) (k * 480) ≡ false → (t : Turn) (o : List ℕ) → t ≡ turnAfter r (readBlocks (blocksBy r) (standing (r .progress)) (cut k given))
+          → o ≡ over (readBlocks (blocksBy r) (standing (r .progress)) (cut k given) .out) out → (t, o) ≡ turnOf r given asked out
       unfolding turnOf
       turn-read e3 t o et eo =
           let f : ltb (length out) (handled given asked * 480) ≡ false = rw (← ek) e3 in

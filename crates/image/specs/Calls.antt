@@ -20,7 +20,7 @@ use Rattle.header.specs.Rules.{done, countFits, lengthFits, reasonNumber, reaso
 use Rattle.format.specs.Edition.{one, noCheck}
 use Rattle.format.specs.Sealed.{blockFor}
 use Rattle.format.specs.Judge.{Keys, begun, standing, BlockReader, ofEdition}
-use Rattle.image.specs.Turn.{Reading, ran, cut}
+use Rattle.image.specs.Turn.{Reading, readBlocks, cut}
 use Rattle.image.specs.declared.WriteAnswer.{WriteAnswer}
 use Rattle.image.specs.declared.WriteAnswer.the-variants.{Written, WriteKey, WriteCount, WriteNumber, WriteLength, WriteRoom}
 use Rattle.image.specs.declared.Reader.{Reader}
@@ -106,8 +106,8 @@ handled lent asked = min asked (length lent / blockSize)
 abbrev pub whole : Reader → Stop → Turn
 whole r why = record { reader = r; accepted = 0; bytes = 0; stop = why }
 
-abbrev pub turned : Reader → Reading → Turn
-turned r t = record {
+abbrev pub turnAfter : Reader → Reading → Turn
+turnAfter r t = record {
   reader = record { enc = r .enc; chk = r .chk; progress = t .standing .progress };
   accepted = t .accepted;
   bytes = t .bytes;
@@ -115,7 +115,7 @@ turned r t = record {
 }
 
 abbrev pub readingOf : Reader → (lent : List ℕ) (asked : ℕ) → Reading
-readingOf r lent asked = ran (blocksBy r) (standing (r .progress)) (cut (handled lent asked) lent)
+readingOf r lent asked = readBlocks (blocksBy r) (standing (r .progress)) (cut (handled lent asked) lent)
 
 -- the answer and the output: 5, 6, 4, in that order, and then the blocks
 unfoldable pub turnOf : Reader → (lent : List ℕ) (asked : ℕ) (out : List ℕ) → Turn × List ℕ
@@ -123,7 +123,7 @@ turnOf r lent asked out =
     choose (not (ltb 0 asked && leb asked 128)) (whole r Asked, out)
     (choose (not (eqb (length lent % blockSize) 0)) (whole r Lent, out)
     (choose (ltb (length out) (handled lent asked * bodySize)) (whole r Room, out)
-    (turned r (readingOf r lent asked), over (readingOf r lent asked .out) out)))
+    (turnAfter r (readingOf r lent asked), over (readingOf r lent asked .out) out)))
 
 -- the number of each way to stop (docs/REFUSALS.md), and what a stop at a block names: its place, and the value its reason holds
 abbrev pub stopNumber : Stop → ℕ

@@ -37,9 +37,9 @@ onward Accepted s len plain t = record {
 }
 onward (Refused reason) s len plain t = record { standing = s; accepted = 0; bytes = 0; stop = At 0 reason; out = [] }
 
-unfoldable pub ran : BlockReader → Standing → List (List ℕ) → Reading
-ran d s [] = record { standing = s; accepted = 0; bytes = 0; stop = End; out = [] }
-ran d s (b ∷ bs) = onward (d .verdict s b) s (headOf b .len) (d .plain b) (ran d (taken s b) bs)
+unfoldable pub readBlocks : BlockReader → Standing → List (List ℕ) → Reading
+readBlocks d s [] = record { standing = s; accepted = 0; bytes = 0; stop = End; out = [] }
+readBlocks d s (b ∷ bs) = onward (d .verdict s b) s (headOf b .len) (d .plain b) (readBlocks d (taken s b) bs)
 
 -- the first n blocks of what was lent
 unfoldable pub cut : ℕ → List ℕ → List (List ℕ)

@@ -1,8 +1,8 @@
 // Release images: a writer of blocks, and a reader that takes them in turns.
 mod turns;
 
-use crate::turns::Ran;
-use crate::turns::run;
+use crate::turns::BlocksRead;
+use crate::turns::read_blocks;
 use cipher::inverse_words;
 use format::Rounds;
 use header::Head;
@@ -24,8 +24,8 @@ ghost use Rattle.schedule.specs.Schedule.{keyNumber};
 ghost use Rattle.octets.specs.Octets.{over};
 ghost use Rattle.format.specs.Edition.{one};
 ghost use Rattle.format.specs.Judge.{standing, ofEdition};
-ghost use Rattle.image.specs.Turn.{ran, cut};
-ghost use Rattle.image.specs.Lent.{sealedUnder, ranOf};
+ghost use Rattle.image.specs.Turn.{readBlocks, cut};
+ghost use Rattle.image.specs.Lent.{sealedUnder, blocksRead};
 ghost use Rattle.image.specs.Calls as spec;
 
 pub enum WriteAnswer {
@@ -189,7 +189,7 @@ pub fn read_turn(reader: Reader, blocks: &[u8], asked: usize, output: &mut [u8])
     if blocks.len() % 512 != 0 {
         return stopped(reader, Stop::Lent);
     }
-    let k = least(asked, blocks.len() / 512);
+    let k = smaller(asked, blocks.len() / 512);
     if output.len() < k * 480 {
         return stopped(reader, Stop::Room);
     }
@@ -199,7 +199,7 @@ pub fn read_turn(reader: Reader, blocks: &[u8], asked: usize, output: &mut [u8])
         enc: enc.rounds,
         chk: chk.rounds,
     };
-    let done = turned(
+    let done = read_under(
         &enc.words,
         &chk.words,
         rounds,
@@ -317,7 +317,7 @@ fn may_ask(asked: usize) -> bool
     asked <= 128
 }
 
-fn least(a: usize, b: usize) -> usize
+fn smaller(a: usize, b: usize) -> usize
     ensures { λ r. ⌜ r ≡ min a b ⌝ }
 {
     if a < b { a } else { b }
@@ -336,7 +336,7 @@ fn stopped(reader: Reader, why: Stop) -> Turn
 }
 
 // The blocks of a turn that has passed its own tests: tables and subkeys are made once, and lent.
-fn turned(
+fn read_under(
     ewords: &[u32; 60],
     cwords: &[u32; 60],
     rounds: Rounds,
@@ -344,10 +344,10 @@ fn turned(
     blocks: &[u8],
     k: usize,
     output: &mut [u8],
-) -> Ran
+) -> BlocksRead
     requires { ⌜ (k * 512 ≤ length (now blocks)) × (k * 480 ≤ length (now output)) × (k ≤ 128) ⌝ }
-    ensures answer { λ r. ⌜ r ≡ ranOf (ran (ofEdition (spec.keysUnder (now (ewords .entry)) (now (cwords .entry)) rounds) one) (standing progress) (cut k (now (blocks .entry)))) ⌝ }
-    ensures handed { λ _. ⌜ now (output .exit) ≡ over (ran (ofEdition (spec.keysUnder (now (ewords .entry)) (now (cwords .entry)) rounds) one) (standing progress) (cut k (now (blocks .entry))) .out) (now (output .entry)) ⌝ }
+    ensures answer { λ r. ⌜ r ≡ blocksRead (readBlocks (ofEdition (spec.keysUnder (now (ewords .entry)) (now (cwords .entry)) rounds) one) (standing progress) (cut k (now (blocks .entry)))) ⌝ }
+    ensures handed { λ _. ⌜ now (output .exit) ≡ over (readBlocks (ofEdition (spec.keysUnder (now (ewords .entry)) (now (cwords .entry)) rounds) one) (standing progress) (cut k (now (blocks .entry))) .out) (now (output .entry)) ⌝ }
 {
     let mut dwords = [0u32; 60];
     inverse_words(ewords, rounds.enc, &mut dwords);
@@ -355,7 +355,7 @@ fn turned(
     let back = inverse_table();
     let key1 = subkeys::key1(&forth, cwords, rounds.chk);
     let key2 = subkeys::key2(key1);
-    run(
+    read_blocks(
         &forth,
         &back,
         ewords,

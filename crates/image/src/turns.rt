@@ -14,10 +14,10 @@ ghost use Rattle.format.specs.Edition.{one};
 ghost use Rattle.format.specs.Judge.{standing, ofEdition};
 ghost use Rattle.format.specs.Lent.{lentKeys};
 ghost use Rattle.image.specs.Turn as spec;
-ghost use Rattle.image.specs.Lent.{following, ranWith, ranOf};
+ghost use Rattle.image.specs.Lent.{following, blocksReadWith, blocksRead};
 
 // What a turn's blocks did.
-pub struct Ran {
+pub struct BlocksRead {
     pub progress: Progress,
     pub accepted: usize,
     pub bytes: usize,
@@ -36,10 +36,10 @@ fn advanced(progress: Progress, head: Head) -> Progress
     }
 }
 
-fn told(progress: Progress, accepted: usize, bytes: usize, stop: Stop) -> Ran
-    ensures { λ r. ⌜ r ≡ ranWith progress accepted bytes stop ⌝ }
+fn blocks_read(progress: Progress, accepted: usize, bytes: usize, stop: Stop) -> BlocksRead
+    ensures { λ r. ⌜ r ≡ blocksReadWith progress accepted bytes stop ⌝ }
 {
-    Ran {
+    BlocksRead {
         progress,
         accepted,
         bytes,
@@ -48,7 +48,7 @@ fn told(progress: Progress, accepted: usize, bytes: usize, stop: Stop) -> Ran
 }
 
 // At most k blocks, up to the first that is refused. An accepted block is opened into its part of the output, and no other is.
-pub fn run(
+pub fn read_blocks(
     forth: &[u32; 256],
     back: &[u32; 256],
     ewords: &[u32; 60],
@@ -61,10 +61,10 @@ pub fn run(
     blocks: &[u8],
     k: usize,
     output: &mut [u8],
-) -> Ran
+) -> BlocksRead
     requires { ⌜ (k * 512 ≤ length (now blocks)) × (k * 480 ≤ length (now output)) × (k ≤ 128) ⌝ }
-    ensures answer { λ r. ⌜ r ≡ ranOf (spec.ran (ofEdition (lentKeys (now (forth .entry)) (now (back .entry)) (now (ewords .entry)) (now (dwords .entry)) (now (cwords .entry)) (now (key1 .entry)) (now (key2 .entry)) rounds) one) (standing progress) (spec.cut k (now (blocks .entry)))) ⌝ }
-    ensures handed { λ _. ⌜ now (output .exit) ≡ over (spec.ran (ofEdition (lentKeys (now (forth .entry)) (now (back .entry)) (now (ewords .entry)) (now (dwords .entry)) (now (cwords .entry)) (now (key1 .entry)) (now (key2 .entry)) rounds) one) (standing progress) (spec.cut k (now (blocks .entry))) .out) (now (output .entry)) ⌝ }
+    ensures answer { λ r. ⌜ r ≡ blocksRead (spec.readBlocks (ofEdition (lentKeys (now (forth .entry)) (now (back .entry)) (now (ewords .entry)) (now (dwords .entry)) (now (cwords .entry)) (now (key1 .entry)) (now (key2 .entry)) rounds) one) (standing progress) (spec.cut k (now (blocks .entry)))) ⌝ }
+    ensures handed { λ _. ⌜ now (output .exit) ≡ over (spec.readBlocks (ofEdition (lentKeys (now (forth .entry)) (now (back .entry)) (now (ewords .entry)) (now (dwords .entry)) (now (cwords .entry)) (now (key1 .entry)) (now (key2 .entry)) rounds) one) (standing progress) (spec.cut k (now (blocks .entry))) .out) (now (output .entry)) ⌝ }
 {
     let mut state = progress;
     let mut bytes: usize = 0;
@@ -89,7 +89,7 @@ pub fn run(
         let head = judged.head;
         let next = advanced(state, head);
         if let Verdict::Refused(reason) = verdict {
-            return told(state, j, bytes, Stop::At(j, reason));
+            return blocks_read(state, j, bytes, Stop::At(j, reason));
         }
         let part = &mut output[to..to + 480];
         open_block(forth, back, ewords, dwords, rounds.enc, block, part);
@@ -97,5 +97,5 @@ pub fn run(
         bytes += head.len as usize;
         j += 1;
     }
-    told(state, j, bytes, Stop::End)
+    blocks_read(state, j, bytes, Stop::End)
 }

@@ -10,7 +10,7 @@ use lib.ListN.{getD}
 use Rattle.octets.proofs.Fill.{getD-tabulate}
 use Rattle.words.specs.Columns.{invMixColumn}
 use Rattle.schedule.specs.Schedule.{roundCount}
-use Rattle.lookups.specs.Tables.{inverseWord, inverseWords}
+use Rattle.lookups.specs.Lookups.{inverseWord, inverseWords}
 use Rattle.fips197.proofs.Rounds.{round-count}
 
 module _ (w : List ℕ) (nr i : ℕ) where

@@ -8,9 +8,9 @@ use Rattle.sbox.specs.Sbox.{sBox, invSBox}
 use Rattle.words.specs.Columns.{mixedEntry, invMixedEntry}
 use Rattle.sbox.proofs.Laws.{entry-table, sBox-lt, invSBox-lt}
 use Rattle.fips197.specs.Cipher.{blockCipher}
-use Rattle.lookups.specs.Tables.{tableCipher, inverseWords}
+use Rattle.lookups.specs.Lookups.{tableCipher, inverseWords}
 use Rattle.tables.specs.Tables.{forwardTable, inverseTable}
-use Rattle.lookups.proofs.Tables.{encrypt-table, decrypt-table}
+use Rattle.lookups.proofs.Lookups.{encrypt-table, decrypt-table}
 
 -- two block ciphers that agree on blocks
 pub record Agree (c d : BlockCipher) : Type 0 where

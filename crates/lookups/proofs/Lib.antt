@@ -1,5 +1,5 @@
 pub mod ByColumns
 pub mod Steps
 pub mod Back
-pub mod Tables
+pub mod Lookups
 pub mod Lawful

@@ -7,7 +7,7 @@ use native.Mathlib.Omega.{arith}
 use borrow.Author.Tests.{eqb-true, ltb-false}
 use lib.Dec.{eqb, ltb}
 use Rattle.octets.specs.Octets.{choose}
-use Rattle.modes.specs.Calls.{ruled, modeNumber, modeOutput}
+use Rattle.modes.specs.Calls.{judged, modeNumber, modeOutput}
 use Rattle.sp800_38a.specs.declared.Operation.{Operation}
 use Rattle.modes.specs.declared.ModeAnswer.{ModeAnswer}
 use Rattle.modes.specs.declared.ModeAnswer.the-variants.{Done, BadKey, BadIv, NotPieces, OutputShort}
@@ -25,8 +25,8 @@ chosen true true false d h = absurd (let z : _≡_ {A = ℕ} 0 1 = cc in omega a
 chosen true false c d h = absurd (let z : _≡_ {A = ℕ} 0 1 = cc in omega arith)
 chosen false b c d h = absurd (let z : _≡_ {A = ℕ} 0 1 = cc in omega arith)
 
-pub met : (key wanted iv inp out : ℕ) → ruled key wanted iv inp out ≡ Done → Met key wanted iv inp out
-unfolding ruled
+pub met : (key wanted iv inp out : ℕ) → judged key wanted iv inp out ≡ Done → Met key wanted iv inp out
+unfolding judged
 met key wanted iv inp out h =
     let t = chosen (eqb key 0) (eqb iv wanted) (eqb (inp % 16) 0) (ltb out inp) h in
     record { key-taken = eqb-true _ _ (t .0); iv-right = eqb-true _ _ (t .1); pieces = eqb-true _ _ (t .2); room = ltb-false _ _ (t .3) }

@@ -21,15 +21,15 @@ modeNumber NotPieces = 3
 modeNumber OutputShort = 4
 
 -- 1, 2, 3, 4, in that order, of the key's number, the IV's length and the one wanted, and the lengths of input and output
-unfoldable pub ruled : (key wanted iv inp out : ℕ) → ModeAnswer
-ruled key wanted iv inp out =
+unfoldable pub judged : (key wanted iv inp out : ℕ) → ModeAnswer
+judged key wanted iv inp out =
     choose (eqb key 0)
     (choose (eqb iv wanted)
     (choose (eqb (inp % 16) 0)
     (choose (ltb out inp) OutputShort Done) NotPieces) BadIv) BadKey
 
 unfoldable pub modeAnswer : Operation → (key iv inp out : List ℕ) → ModeAnswer
-modeAnswer o key iv inp out = ruled (keyNumber (scheduleOf sBox key .answer)) (ivLength 16 o) (length iv) (length inp) (length out)
+modeAnswer o key iv inp out = judged (keyNumber (scheduleOf sBox key .answer)) (ivLength 16 o) (length iv) (length inp) (length out)
 
 -- the output afterwards: what the operation makes of the input, and the rest as it was; after a refusal, as it was
 abbrev pub modeOutput : ModeAnswer → Operation → (key iv inp out : List ℕ) → List ℕ

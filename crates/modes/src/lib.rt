@@ -8,12 +8,12 @@ use tables::forward_table;
 use tables::inverse_table;
 ghost use mathlib.Core.Path.{_≡_};
 ghost use Rattle.schedule.specs.Schedule.{keyNumber};
-ghost use Rattle.lookups.specs.Tables.{tableCipher, inverseWords};
+ghost use Rattle.lookups.specs.Lookups.{tableCipher, inverseWords};
 ghost use Rattle.tables.specs.Tables.{forwardTable, inverseTable};
 ghost use Rattle.sp800_38a.specs.Modes.{ivLength};
 ghost use Rattle.sp800_38a.specs.Modes as standard;
-ghost use Rattle.pieces.specs.Runs.{through};
-ghost use Rattle.modes.specs.Calls.{modeNumber, ruled, modeAnswer, modeOutput};
+ghost use Rattle.pieces.specs.Runs.{runOver};
+ghost use Rattle.modes.specs.Calls.{modeNumber, judged, modeAnswer, modeOutput};
 
 pub enum ModeAnswer {
     Done,
@@ -57,7 +57,7 @@ pub fn apply(
     let ModeAnswer::Done = answer else {
         return answer;
     };
-    under(
+    under_schedule(
         &words,
         schedule.rounds,
         operation,
@@ -69,7 +69,7 @@ pub fn apply(
 }
 
 // Runs through an operation under a schedule, with the one table that it looks up in; the answer is what the next piece is chained to.
-fn under(
+fn under_schedule(
     words: &[u32; 60],
     rounds: usize,
     operation: Operation,
@@ -77,7 +77,7 @@ fn under(
     input: &[u8],
     output: &mut [u8],
 ) -> [u8; 16]
-    ensures { λ r. ⌜ (r, now (output .exit)) ≡ through (tableCipher forwardTable inverseTable (now (words .entry)) (inverseWords (now (words .entry)) rounds) rounds) operation iv (now (input .entry)) (now (output .entry)) ⌝ }
+    ensures { λ r. ⌜ (r, now (output .exit)) ≡ runOver (tableCipher forwardTable inverseTable (now (words .entry)) (inverseWords (now (words .entry)) rounds) rounds) operation iv (now (input .entry)) (now (output .entry)) ⌝ }
 {
     if inverts(operation) {
         let table = inverse_table();
@@ -107,7 +107,7 @@ fn inverts(operation: Operation) -> bool
 
 // The answer, from that for the key and the lengths of the rest.
 fn judge(key: KeyAnswer, operation: Operation, iv: usize, input: usize, output: usize) -> ModeAnswer
-    ensures { λ r. ⌜ r ≡ ruled (keyNumber key) (ivLength 16 operation) iv input output ⌝ }
+    ensures { λ r. ⌜ r ≡ judged (keyNumber key) (ivLength 16 operation) iv input output ⌝ }
 {
     let KeyAnswer::Taken = key else {
         return ModeAnswer::BadKey;

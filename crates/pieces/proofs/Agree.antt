@@ -14,16 +14,16 @@ use Rattle.octets.specs.Blocks.{BlockCipher, Lawful}
 use Rattle.octets.proofs.Xor.{lt-or-le}
 use Rattle.blocks.specs.Blocks.{blockAt}
 use Rattle.blocks.proofs.Laws.{block-at, block-octets}
-use Rattle.lookups.specs.Tables.{tableCipher, oneTable}
+use Rattle.lookups.specs.Lookups.{tableCipher, oneTable}
 use Rattle.lookups.proofs.Lawful.{Agree}
-use Rattle.sp800_38a.specs.Pieces.{made, after, pieceCount}
+use Rattle.sp800_38a.specs.Pieces.{outputOf, after, pieceCount}
 use Rattle.sp800_38a.specs.Modes.{machine, inverts, ivLength, moded}
 use Rattle.sp800_38a.specs.declared.Operation.{Operation}
 use Rattle.sp800_38a.specs.declared.Operation.the-variants.{EcbEncrypt, EcbDecrypt, CbcEncrypt, CbcDecrypt, CfbEncrypt, CfbDecrypt, OfbEncrypt, OfbDecrypt}
 use Rattle.sp800_38a.proofs.Undo.{ChainOf}
 use Rattle.sp800_38a.proofs.Sixteen.{by-sixteen, length-16}
 use Rattle.sp800_38a.proofs.Same.{moded-same, handed-same}
-use Rattle.pieces.specs.Runs.{common, through}
+use Rattle.pieces.specs.Runs.{common, runOver}
 
 -- an operation uses the cipher one way only, so the table and the schedule of that way serve
 forward-only : (t b w v : List ℕ) (nr : ℕ) (o : Operation) → inverts o ≡ false → machine (oneTable t w nr) o ≡ machine (tableCipher t b w v nr) o
@@ -47,25 +47,25 @@ backward-only t b w v nr OfbEncrypt e = absurd (true≢false (sym e))
 backward-only t b w v nr OfbDecrypt e = absurd (true≢false (sym e))
 
 module _ (t b w v : List ℕ) (nr : ℕ) (o : Operation) (iv inp out : List ℕ) where
-  pub through-forward : inverts o ≡ false → through (oneTable t w nr) o iv inp out ≡ through (tableCipher t b w v nr) o iv inp out
-  unfolding through
+  pub through-forward : inverts o ≡ false → runOver (oneTable t w nr) o iv inp out ≡ runOver (tableCipher t b w v nr) o iv inp out
+  unfolding runOver
   through-forward e = rw (forward-only t b w v nr o e)
 
-  pub through-backward : inverts o ≡ true → through (oneTable b v nr) o iv inp out ≡ through (tableCipher t b w v nr) o iv inp out
-  unfolding through
+  pub through-backward : inverts o ≡ true → runOver (oneTable b v nr) o iv inp out ≡ runOver (tableCipher t b w v nr) o iv inp out
+  unfolding runOver
   through-backward e = rw (backward-only t b w v nr o e)
 
 -- ---- the IV
 
 -- ECB has no chaining value, so any serves
 ecb-any : (c : BlockCipher) (o : Operation) → ((st p : List ℕ) → machine c o .next st p ≡ st) → ((st st' p : List ℕ) → machine c o .out st p ≡ machine c o .out st' p)
-    → (st st' : List ℕ) (n : ℕ) (s : List ℕ) → made 16 (machine c o) st n s ≡ made 16 (machine c o) st' n s
-unfolding made
+    → (st st' : List ℕ) (n : ℕ) (s : List ℕ) → outputOf 16 (machine c o) st n s ≡ outputOf 16 (machine c o) st' n s
+unfolding outputOf
 ecb-any c o x y st st' zero s = refl
 ecb-any c o x y st st' (suc n) s =
     ap₂ _++_ (y st st' (take 16 s))
-    (ap (λ (t : List ℕ). made 16 (machine c o) t n (drop 16 s)) (x st (take 16 s)) ∙ ecb-any c o x y st st' n (drop 16 s)
-    ∙ ap (λ (t : List ℕ). made 16 (machine c o) t n (drop 16 s)) (sym (x st' (take 16 s))))
+    (ap (λ (t : List ℕ). outputOf 16 (machine c o) t n (drop 16 s)) (x st (take 16 s)) ∙ ecb-any c o x y st st' n (drop 16 s)
+    ∙ ap (λ (t : List ℕ). outputOf 16 (machine c o) t n (drop 16 s)) (sym (x st' (take 16 s))))
 
 -- an IV of 16 bytes, loaded as a block
 loaded : (iv : List ℕ) → length iv ≡ 16 → blockAt iv 0 ≡ iv
@@ -92,10 +92,10 @@ iv-is-chain OfbEncrypt iv e b = record { size = e; bytes = b }
 iv-is-chain OfbDecrypt iv e b = record { size = e; bytes = b }
 
 module _ (c : BlockCipher) (iv : List ℕ) (n : ℕ) (s : List ℕ) where
-  block-iv : (o : Operation) → length iv ≡ 16 → made 16 (machine c o) (blockAt iv 0) n s ≡ made 16 (machine c o) iv n s
-  block-iv o e = ap (λ (x : List ℕ). made 16 (machine c o) x n s) (loaded iv e)
+  block-iv : (o : Operation) → length iv ≡ 16 → outputOf 16 (machine c o) (blockAt iv 0) n s ≡ outputOf 16 (machine c o) iv n s
+  block-iv o e = ap (λ (x : List ℕ). outputOf 16 (machine c o) x n s) (loaded iv e)
 
-  pub iv-same : (o : Operation) → length iv ≡ ivLength 16 o → made 16 (machine c o) (blockAt iv 0) n s ≡ made 16 (machine c o) iv n s
+  pub iv-same : (o : Operation) → length iv ≡ ivLength 16 o → outputOf 16 (machine c o) (blockAt iv 0) n s ≡ outputOf 16 (machine c o) iv n s
   iv-same EcbEncrypt e = ecb-any c EcbEncrypt (λ st p. refl) (λ st st' p. refl) (blockAt iv 0) iv n s
   iv-same EcbDecrypt e = ecb-any c EcbDecrypt (λ st p. refl) (λ st st' p. refl) (blockAt iv 0) iv n s
   iv-same CbcEncrypt e = block-iv CbcEncrypt e
@@ -120,19 +120,19 @@ common-all a b h l = ⊎-elim shorter equal (lt-or-le a b)
 
 -- a run whose input and output are as long, and whole pieces: the operation, whatever the cipher
 pub through-whole : (c : BlockCipher) (o : Operation) (iv inp out : List ℕ) → length inp % 16 ≡ 0 → length inp ≡ length out
-    → through c o iv inp out ≡ (after 16 (machine c o) iv (pieceCount 16 inp) inp, moded 16 c o iv inp)
-unfolding through
+    → runOver c o iv inp out ≡ (after 16 (machine c o) iv (pieceCount 16 inp) inp, moded 16 c o iv inp)
+unfolding runOver
 through-whole c o iv inp out h e =
     let n = (length inp + 15) / 16 in
     let k = common-all (length inp) (length out) h (omega arith) in
     let z : drop (n * 16) out ≡ [] = drop-of-length-le out {i = n * 16} (omega arith) in
-    rw (k, z, append-nil (made 16 (machine c o) iv n inp))
+    rw (k, z, append-nil (outputOf 16 (machine c o) iv n inp))
 
 module _ (c d : BlockCipher) (a : Agree c d) (l : Lawful 16 d) (o : Operation) (st inp : List ℕ) (g : ChainOf 16 o st) (b : Bytes inp) (h : length inp % 16 ≡ 0) where
   -- a run over one cipher is the operation over the other, over the front of the output
   pub through-mode : (out : List ℕ) → length inp ≤ length out
-      → through c o st inp out ≡ (after 16 (machine d o) st (pieceCount 16 inp) inp, over (moded 16 d o st inp) out)
-  unfolding through
+      → runOver c o st inp out ≡ (after 16 (machine d o) st (pieceCount 16 inp) inp, over (moded 16 d o st inp) out)
+  unfolding runOver
   through-mode out r =
       let n = (length inp + 15) / 16 in
       let k : n * 16 ≡ length inp = omega arith in

@@ -32,5 +32,5 @@ unfoldable pub common : ℕ → ℕ → ℕ
 common a b = choose (ltb a b) (a / 16) (b / 16)
 
 -- a run through them: what a piece after them is chained to, and the output afterwards
-unfoldable pub through : BlockCipher → Operation → (iv inp out : List ℕ) → List ℕ × List ℕ
-through c o iv inp out = ran 16 (machine c o) iv (common (length inp) (length out)) inp out
+unfoldable pub runOver : BlockCipher → Operation → (iv inp out : List ℕ) → List ℕ × List ℕ
+runOver c o iv inp out = ran 16 (machine c o) iv (common (length inp) (length out)) inp out

@@ -11,10 +11,10 @@ use steps::step;
 ghost use mathlib.Core.Path.{_≡_};
 ghost use Prim.Native.Nat.{_*_, _≤_};
 ghost use lib.ListN.{length};
-ghost use Rattle.lookups.specs.Tables.{oneTable};
+ghost use Rattle.lookups.specs.Lookups.{oneTable};
 ghost use Rattle.sp800_38a.specs.Pieces.{ran};
 ghost use Rattle.sp800_38a.specs.Modes.{machine};
-ghost use Rattle.pieces.specs.Runs.{common, through};
+ghost use Rattle.pieces.specs.Runs.{common, runOver};
 
 // The whole pieces that input and output have in common; the answer is what a piece after them is chained to.
 pub fn run(
@@ -26,7 +26,7 @@ pub fn run(
     input: &[u8],
     output: &mut [u8],
 ) -> [u8; 16]
-    ensures { λ r. ⌜ (r, now (output .exit)) ≡ through (oneTable (now (table .entry)) (now (words .entry)) rounds) operation iv (now (input .entry)) (now (output .entry)) ⌝ }
+    ensures { λ r. ⌜ (r, now (output .exit)) ≡ runOver (oneTable (now (table .entry)) (now (words .entry)) rounds) operation iv (now (input .entry)) (now (output .entry)) ⌝ }
 {
     let n = in_common(input.len(), output.len());
     if goes_in_pairs(operation) {

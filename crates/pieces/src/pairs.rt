@@ -10,8 +10,8 @@ ghost use mathlib.Core.Path.{_≡_};
 ghost use mathlib.Core.Bool.{true};
 ghost use Prim.Native.Nat.{_*_, _≤_};
 ghost use lib.ListN.{length};
-ghost use Rattle.lookups.specs.Tables.{oneTable};
-ghost use Rattle.sp800_38a.specs.Pieces.{made, ran};
+ghost use Rattle.lookups.specs.Lookups.{oneTable};
+ghost use Rattle.sp800_38a.specs.Pieces.{outputOf, ran};
 ghost use Rattle.sp800_38a.specs.Modes.{machine};
 ghost use Rattle.pieces.specs.Runs.{goesInPairs, stepsOf};
 
@@ -78,7 +78,7 @@ fn whole_pairs(
 ) -> [u8; 16]
     requires { ⌜ (goesInPairs operation ≡ true) × (n * 32 ≤ length (now input)) × (n * 32 ≤ length (now output)) ⌝ }
     ensures done { λ r. ⌜ (r, now (output .exit)) ≡ ran 16 (machine (oneTable (now (table .entry)) (now (words .entry)) rounds) operation) iv (n * 2) (now (input .entry)) (now (output .entry)) ⌝ }
-    ensures size { λ r. ⌜ length (made 16 (machine (oneTable (now (table .entry)) (now (words .entry)) rounds) operation) iv (n * 2) (now (input .entry))) ≡ n * 2 * 16 ⌝ }
+    ensures size { λ r. ⌜ length (outputOf 16 (machine (oneTable (now (table .entry)) (now (words .entry)) rounds) operation) iv (n * 2) (now (input .entry))) ≡ n * 2 * 16 ⌝ }
 {
     let mut chain = iv;
     for i in 0..n {

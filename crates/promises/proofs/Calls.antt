@@ -14,11 +14,11 @@ use Rattle.blocks.proofs.store.Reads as store
 use Rattle.blocks.proofs.xor.Reads as xor
 use Rattle.words.proofs.join.Reads as join
 use Rattle.words.proofs.rot_word.Reads as rot-word
-use Rattle.words.proofs.substitute.Reads as substitute
+use Rattle.words.proofs.sub_word.Reads as sub-word
 use Rattle.words.proofs.mix_column.Reads as mix-column
 use Rattle.words.proofs.inv_mix_column.Reads as inv-mix-column
-use Rattle.words.proofs.spun.Reads as spun
-use Rattle.words.proofs.middles.Reads as middles
+use Rattle.words.proofs.sub_mix_column.Reads as sub-mix-column
+use Rattle.words.proofs.sub_column.Reads as sub-column
 use Rattle.schedule.proofs.KeySchedule.new.Reads as new
 use Rattle.schedule.proofs.is_round_count.Reads as is-round-count
 use Rattle.words.proofs.word_bytes.Reads as word-bytes
@@ -27,8 +27,8 @@ use Rattle.tables.proofs.forward_table.Reads as forward-table
 use Rattle.tables.proofs.inverse_table.Reads as inverse-table
 use Rattle.states.proofs.load.Reads as load-state
 use Rattle.states.proofs.store.Reads as store-state
-use Rattle.states.proofs.looked.Reads as looked
-use Rattle.states.proofs.looked_last.Reads as looked-last
+use Rattle.states.proofs.sub_shift_mix.Reads as sub-shift-mix
+use Rattle.states.proofs.sub_shift.Reads as sub-shift
 use Rattle.states.proofs.mirrored.Reads as mirrored
 use Rattle.states.proofs.mix_columns.Reads as mix-columns
 use Rattle.cipher.proofs.encrypt.Reads as encrypt
@@ -75,11 +75,11 @@ rot-word-asks-nothing κs a = tt
 pub rot-word-determined : (κs : _) (a : _) (r r′ : _) (s s′ : _) → rot-word.Post κs a r s → rot-word.Post κs a r′ s′ → r ≡ r′
 rot-word-determined κs a r r′ s s′ p q = p ∙ sym q
 
-pub substitute-asks-nothing : (κs : _) (a : _) → substitute.Asked κs a
-substitute-asks-nothing κs a = tt
+pub sub-word-asks-nothing : (κs : _) (a : _) → sub-word.Asked κs a
+sub-word-asks-nothing κs a = tt
 
-pub substitute-determined : (κs : _) (a : _) (r r′ : _) (s s′ : _) → substitute.Post κs a r s → substitute.Post κs a r′ s′ → r ≡ r′
-substitute-determined κs a r r′ s s′ p q = p .whole ∙ sym (q .whole)
+pub sub-word-determined : (κs : _) (a : _) (r r′ : _) (s s′ : _) → sub-word.Post κs a r s → sub-word.Post κs a r′ s′ → r ≡ r′
+sub-word-determined κs a r r′ s s′ p q = p .whole ∙ sym (q .whole)
 
 pub mix-column-asks-nothing : (κs : _) (a : _) → mix-column.Asked κs a
 mix-column-asks-nothing κs a = tt
@@ -93,17 +93,17 @@ inv-mix-column-asks-nothing κs a = tt
 pub inv-mix-column-determined : (κs : _) (a : _) (r r′ : _) (s s′ : _) → inv-mix-column.Post κs a r s → inv-mix-column.Post κs a r′ s′ → r ≡ r′
 inv-mix-column-determined κs a r r′ s s′ p q = p ∙ sym q
 
-pub spun-asks-nothing : (κs : _) (a : _) → spun.Asked κs a
-spun-asks-nothing κs a = tt
+pub sub-mix-column-asks-nothing : (κs : _) (a : _) → sub-mix-column.Asked κs a
+sub-mix-column-asks-nothing κs a = tt
 
-pub spun-determined : (κs : _) (a : _) (r r′ : _) (s s′ : _) → spun.Post κs a r s → spun.Post κs a r′ s′ → r ≡ r′
-spun-determined κs a r r′ s s′ p q = p ∙ sym q
+pub sub-mix-column-determined : (κs : _) (a : _) (r r′ : _) (s s′ : _) → sub-mix-column.Post κs a r s → sub-mix-column.Post κs a r′ s′ → r ≡ r′
+sub-mix-column-determined κs a r r′ s s′ p q = p ∙ sym q
 
-pub middles-asks-nothing : (κs : _) (a : _) → middles.Asked κs a
-middles-asks-nothing κs a = tt
+pub sub-column-asks-nothing : (κs : _) (a : _) → sub-column.Asked κs a
+sub-column-asks-nothing κs a = tt
 
-pub middles-determined : (κs : _) (a : _) (r r′ : _) (s s′ : _) → middles.Post κs a r s → middles.Post κs a r′ s′ → r ≡ r′
-middles-determined κs a r r′ s s′ p q = p ∙ sym q
+pub sub-column-determined : (κs : _) (a : _) (r r′ : _) (s s′ : _) → sub-column.Post κs a r s → sub-column.Post κs a r′ s′ → r ≡ r′
+sub-column-determined κs a r r′ s s′ p q = p ∙ sym q
 
 pub new-asks-nothing : (κs : _) (a : _) → new.Asked κs a
 new-asks-nothing κs a = tt
@@ -141,17 +141,17 @@ store-state-asks-nothing κs a = tt
 pub store-state-determined : (κs : _) (a : _) (r r′ : _) (s s′ : _) → store-state.Post κs a r s → store-state.Post κs a r′ s′ → r ≡ r′
 store-state-determined κs a r r′ s s′ p q = p ∙ sym q
 
-pub looked-asks-nothing : (κs : _) (a : _) → looked.Asked κs a
-looked-asks-nothing κs a = tt
+pub sub-shift-mix-asks-nothing : (κs : _) (a : _) → sub-shift-mix.Asked κs a
+sub-shift-mix-asks-nothing κs a = tt
 
-pub looked-determined : (κs : _) (a : _) (r r′ : _) (s s′ : _) → looked.Post κs a r s → looked.Post κs a r′ s′ → r ≡ r′
-looked-determined κs a r r′ s s′ p q = p ∙ sym q
+pub sub-shift-mix-determined : (κs : _) (a : _) (r r′ : _) (s s′ : _) → sub-shift-mix.Post κs a r s → sub-shift-mix.Post κs a r′ s′ → r ≡ r′
+sub-shift-mix-determined κs a r r′ s s′ p q = p ∙ sym q
 
-pub looked-last-asks-nothing : (κs : _) (a : _) → looked-last.Asked κs a
-looked-last-asks-nothing κs a = tt
+pub sub-shift-asks-nothing : (κs : _) (a : _) → sub-shift.Asked κs a
+sub-shift-asks-nothing κs a = tt
 
-pub looked-last-determined : (κs : _) (a : _) (r r′ : _) (s s′ : _) → looked-last.Post κs a r s → looked-last.Post κs a r′ s′ → r ≡ r′
-looked-last-determined κs a r r′ s s′ p q = p ∙ sym q
+pub sub-shift-determined : (κs : _) (a : _) (r r′ : _) (s s′ : _) → sub-shift.Post κs a r s → sub-shift.Post κs a r′ s′ → r ≡ r′
+sub-shift-determined κs a r r′ s s′ p q = p ∙ sym q
 
 pub mirrored-asks-nothing : (κs : _) (a : _) → mirrored.Asked κs a
 mirrored-asks-nothing κs a = tt

@@ -13,7 +13,7 @@ use Rattle.schedule.specs.declared.Expanded.{Expanded}
 use Rattle.tables.specs.Tables.{forwardTable}
 use Rattle.fips197.specs.State.{aes}
 use Rattle.fips197.specs.Cipher.{cipher, invCipher, encryptBlock, decryptBlock, aesOf, standard}
-use Rattle.lookups.specs.Tables.{oneTable}
+use Rattle.lookups.specs.Lookups.{oneTable}
 use Rattle.fips197.proofs.Padding.{cipher-padded, inv-cipher-padded}
 use Rattle.fips197.proofs.Aes.{key-lawful}
 use Rattle.sp800_38b.specs.Cmac.{doubled, key1, key2, cmac, cmacBy, SameOutside}

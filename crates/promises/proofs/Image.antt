@@ -31,7 +31,7 @@ use Rattle.header.proofs.Laws.{Wide}
 use Rattle.format.specs.Edition.{Edition, one, noCheck}
 use Rattle.format.specs.Sealed.{filled, headFor, blockFor, sealed, opened, checks, fillZero}
 use Rattle.format.specs.Judge.{Keys, Standing, standing, judge, advanced, BlockReader}
-use Rattle.image.specs.Turn.{Reading, ran, cut}
+use Rattle.image.specs.Turn.{Reading, readBlocks, cut}
 use Rattle.image.specs.Calls.{writeNumber, writeOutput, writeAnswer, startOf, keysOf, blocksBy, handled, readingOf, turnOf, stopNumber, completionOf}
 use Rattle.image.specs.declared.WriteAnswer.{WriteAnswer}
 use Rattle.image.specs.declared.WriteAnswer.the-variants.{Written, WriteKey, WriteCount, WriteNumber, WriteLength, WriteRoom}
@@ -42,13 +42,13 @@ use Rattle.image.specs.declared.Turn.{Turn}
 use Rattle.image.specs.declared.Completion.the-variants.{Complete, NotComplete}
 use Rattle.promises.proofs.ImageTerms.{Proper, Met, Row, Says, unchecked, AllMet, Blocks, payload, plains, parts, AllFilled, Fit, WriteSays, afterWrite, Wrote, blocks, image, inState, readerOf, Waits, moved, FromStart, Sound, given, Fair, StartSays, StopSays, CompletionSays, Whole, Lending, AllFair, offered, concat, lendEach, AllFew, readerAfter, AllAccepted, handedOut, counted, andThen}
 use Rattle.promises.proofs.Keys.{KeyTaken}
-use Rattle.promises.proofs.ImageSealed.{sealed-size, sealed-bytes, sealed-checks, sealed-opened, sealed-head, sealed-fill}
-use Rattle.promises.proofs.ImageJudge.{damaged-check, accepted-met, accepted-sealed, verdict-says, no-row-accepted, met-accepted, fits-count, no-keys}
-use Rattle.promises.proofs.ImageTurn.{out-at, ran-append, ran-state, advance, accepted-le, end-all, ends-or-at, stop-place, stops-by, ran-met, met-ends, first-fixes, none-accepted, no-keys-none, ran-out, ran-bytes, met-filled, parts-length}
-use Rattle.promises.proofs.ImageSound.{ran-never-11}
-use Rattle.promises.proofs.ImageWhole.{written-length, Passes, Left, left-fits, written-at, image-blocks, image-parts, image-passes}
-use Rattle.promises.proofs.ImageCalls.{start-keys, output-rest, fresh-start, answer-says, told-turn, keysUnder, start-fresh, start-refused, start-zeros, usable-lawful, fit-written, output-block, cut-length, given-blocks, fair-turn, by-turn, reading-length, reading-le, one-accepted}
-use Rattle.promises.proofs.ImageRead.{blocks-split, size, head-is, opens, keys-are, accepts, refuses, turns-read, from-sound}
+use Rattle.promises.proofs.Lemmas.ImageSealed.{sealed-size, sealed-bytes, sealed-checks, sealed-opened, sealed-head, sealed-fill}
+use Rattle.promises.proofs.Lemmas.ImageJudge.{damaged-check, accepted-met, accepted-sealed, verdict-says, no-row-accepted, met-accepted, fits-count, no-keys}
+use Rattle.promises.proofs.Lemmas.ImageTurn.{out-at, ran-append, ran-state, advance, accepted-le, end-all, ends-or-at, stop-place, stops-by, ran-met, met-ends, first-fixes, none-accepted, no-keys-none, ran-out, ran-bytes, met-filled, parts-length}
+use Rattle.promises.proofs.Lemmas.ImageSound.{ran-never-11}
+use Rattle.promises.proofs.Lemmas.ImageWhole.{written-length, Passes, Left, left-fits, written-at, image-blocks, image-parts, image-passes}
+use Rattle.promises.proofs.Lemmas.ImageCalls.{start-keys, output-rest, fresh-start, answer-says, told-turn, keysUnder, start-fresh, start-refused, start-zeros, usable-lawful, fit-written, output-block, cut-length, given-blocks, fair-turn, by-turn, reading-length, reading-le, one-accepted}
+use Rattle.promises.proofs.Lemmas.ImageRead.{blocks-split, size, head-is, opens, keys-are, accepts, refuses, turns-read, from-sound}
 
 -- ---- one block, over any two lawful ciphers
 
@@ -309,7 +309,7 @@ image-is-read ekey ckey release payload te tc hr lp bp ls f e =
     (t .0, rw (t .1), t .2 ∙ whole, t .3 ∙ ap length whole)
 
 -- blocks may be cut into turns at any place: a run over some and then a run over the rest are the run over all
-pub cut-anywhere : (d : BlockReader) (s : Standing) (cs bs : List (List ℕ)) → ran d s cs .stop ≡ End → ran d s (cs ++ bs) ≡ andThen (ran d s cs) (ran d (ran d s cs .standing) bs)
+pub cut-anywhere : (d : BlockReader) (s : Standing) (cs bs : List (List ℕ)) → readBlocks d s cs .stop ≡ End → readBlocks d s (cs ++ bs) ≡ andThen (readBlocks d s cs) (readBlocks d (readBlocks d s cs .standing) bs)
 cut-anywhere d s cs bs e = ran-append d s cs bs e
 
 -- blocks lent one after another are those that the turn handles, as far as it asks for them
@@ -415,9 +415,9 @@ turn-fixes r lent asked out =
     (λ e. absurd (omega arith)) (λ e. absurd (omega arith)) (λ e. absurd (omega arith))
     (λ f. go (given lent asked))
   where
-    go : (bs : List (List ℕ)) → 0 < ran (blocksBy r) (standing (r .progress)) bs .accepted
-        → (ran (blocksBy r) (standing (r .progress)) bs .standing .progress .fixed ≡ true)
-        × (ran (blocksBy r) (standing (r .progress)) bs .standing .progress .count ≡ headOf (getD bs 0 []) .count) × (ran (blocksBy r) (standing (r .progress)) bs .standing .progress .release ≡ headOf (getD bs 0 []) .release)
+    go : (bs : List (List ℕ)) → 0 < readBlocks (blocksBy r) (standing (r .progress)) bs .accepted
+        → (readBlocks (blocksBy r) (standing (r .progress)) bs .standing .progress .fixed ≡ true)
+        × (readBlocks (blocksBy r) (standing (r .progress)) bs .standing .progress .count ≡ headOf (getD bs 0 []) .count) × (readBlocks (blocksBy r) (standing (r .progress)) bs .standing .progress .release ≡ headOf (getD bs 0 []) .release)
     go [] h = absurd (omega (arith, accepted-le (blocksBy r) (standing (r .progress)) []))
     go (b ∷ bs) h = first-fixes (keysOf r) one (standing (r .progress)) b bs h
 

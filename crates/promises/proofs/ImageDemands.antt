@@ -9,7 +9,7 @@ use lib.Dec.{leb}
 use lib.ListN.{length, getD, take, drop, replicate}
 use Rattle.octets.specs.Octets.{Bytes, Octets, choose, over}
 use Rattle.schedule.specs.Schedule.{keyNumber}
-use Rattle.lookups.specs.Tables.{tableCipher}
+use Rattle.lookups.specs.Lookups.{tableCipher}
 use Rattle.sp800_38b.specs.Cmac.{SameOutside}
 use Rattle.header.specs.Rules.{done, verdictNumber}
 use Rattle.header.specs.declared.Progress.{Progress}

@@ -17,9 +17,9 @@ use Rattle.schedule.specs.Schedule.{scheduleOf, keyNumber, roundCount}
 use Rattle.fips197.specs.Cipher.{standard, aesOf}
 use Rattle.fips197.proofs.Aes.{aes-lawful, key-lawful}
 use Rattle.tables.specs.Tables.{forwardTable, inverseTable}
-use Rattle.lookups.specs.Tables.{oneTable, tableCipher, inverseWords}
+use Rattle.lookups.specs.Lookups.{oneTable, tableCipher, inverseWords}
 use Rattle.lookups.proofs.Lawful.{lent-agrees}
-use Rattle.sp800_38a.specs.Pieces.{made, after, pieceCount}
+use Rattle.sp800_38a.specs.Pieces.{outputOf, after, pieceCount}
 use Rattle.sp800_38a.specs.Modes.{machine, other, inverts, ivLength, moded}
 use Rattle.sp800_38a.specs.Equations.{Equation}
 use Rattle.sp800_38a.specs.declared.Operation.{Operation}
@@ -27,9 +27,9 @@ use Rattle.sp800_38a.specs.declared.Operation.the-variants.{EcbEncrypt, EcbDecr
 use Rattle.sp800_38a.proofs.Undo.{ChainOf, moded-undone}
 use Rattle.sp800_38a.proofs.Sixteen.{by-sixteen, length-16, undone-16}
 use Rattle.sp800_38a.proofs.Equations.{equation}
-use Rattle.pieces.specs.Runs.{common, through}
+use Rattle.pieces.specs.Runs.{common, runOver}
 use Rattle.pieces.proofs.Agree.{iv-is-chain, through-forward, through-backward, through-mode}
-use Rattle.modes.specs.Calls.{modeNumber, ruled, modeAnswer, modeOutput}
+use Rattle.modes.specs.Calls.{modeNumber, judged, modeAnswer, modeOutput}
 use Rattle.modes.specs.declared.ModeAnswer.{ModeAnswer}
 use Rattle.modes.specs.declared.ModeAnswer.the-variants.{Done, BadKey, BadIv, NotPieces, OutputShort}
 use Rattle.modes.proofs.Answers.{kept}
@@ -87,13 +87,13 @@ run-determined κs a r r′ s s′ p q = let e = p ∙ sym q in (ap (λ (x : Lis
 pub run-refused-keeps : (κs : _) (a : _) (r : _) (s : _) → run.Post κs a r s
     → common (length (now (a .1 .1 .1 .1 .1 .0))) (length (now (a .1 .1 .1 .1 .1 .1 .0))) ≡ 0
     → now (s .1 .1 .1 .1 .1 .1 .0) ≡ now (a .1 .1 .1 .1 .1 .1 .0)
-unfolding through made
+unfolding runOver outputOf
 run-refused-keeps κs a r s p e = ap (λ (x : List ℕ × List ℕ). x .1) p ∙ rw e
 
 -- ---- each answer says what the table says, in its order; and where nothing is refused the call is done
 
 tell : (o : Operation) (key iv inp out : List ℕ) → Says o key iv inp out (modeAnswer o key iv inp out)
-unfolding modeAnswer ruled
+unfolding modeAnswer judged
 tell o key iv inp out =
     each (eqb (keyNumber (scheduleOf sBox key .answer)) 0) (eqb (length iv) (ivLength 16 o)) (eqb (length inp % 16) 0) (ltb (length out) (length inp)) refl refl refl refl
   where
@@ -188,10 +188,10 @@ pub record Lends (o : Operation) (w : List ℕ) (nr : ℕ) (table words : List �
   pub back : inverts o ≡ true → (table ≡ inverseTable) × (words ≡ inverseWords w nr)
 
 lent-through : (o : Operation) (w : List ℕ) (nr : ℕ) (table words : List ℕ) → Lends o w nr table words → (iv inp out : List ℕ)
-    → through (oneTable table words nr) o iv inp out ≡ through (tableCipher forwardTable inverseTable w (inverseWords w nr) nr) o iv inp out
+    → runOver (oneTable table words nr) o iv inp out ≡ runOver (tableCipher forwardTable inverseTable w (inverseWords w nr) nr) o iv inp out
 lent-through o w nr table words l iv inp out = by (inverts o) refl
   where
-    by : (k : Bool) → inverts o ≡ k → through (oneTable table words nr) o iv inp out ≡ through (tableCipher forwardTable inverseTable w (inverseWords w nr) nr) o iv inp out
+    by : (k : Bool) → inverts o ≡ k → runOver (oneTable table words nr) o iv inp out ≡ runOver (tableCipher forwardTable inverseTable w (inverseWords w nr) nr) o iv inp out
     by true e = rw (l .back e .0, l .back e .1) (through-backward forwardTable inverseTable w (inverseWords w nr) nr o iv inp out e)
     by false e = rw (l .forth e .0, l .forth e .1) (through-forward forwardTable inverseTable w (inverseWords w nr) nr o iv inp out e)
 
@@ -208,7 +208,7 @@ run-is-the-mode κs a r s p w known l g b h room =
     let inp = now (a .1 .1 .1 .1 .1 .0) in
     let out = now (a .1 .1 .1 .1 .1 .1 .0) in
     let c = tableCipher forwardTable inverseTable w (inverseWords w nr) nr in
-    let q : (r, now (s .1 .1 .1 .1 .1 .1 .0)) ≡ through c o iv inp out = p ∙ lent-through o w nr (now (a .0)) (now (a .1 .0)) l iv inp out in
+    let q : (r, now (s .1 .1 .1 .1 .1 .1 .0)) ≡ runOver c o iv inp out = p ∙ lent-through o w nr (now (a .0)) (now (a .1 .0)) l iv inp out in
     let e = q ∙ through-mode c (standard w nr) (lent-agrees w nr) (aes-lawful w nr known) o iv inp g b h out room in
     (ap (λ (x : List ℕ × List ℕ). x .0) e, ap (λ (x : List ℕ × List ℕ). x .1) e)
 

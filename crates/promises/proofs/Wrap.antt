@@ -16,7 +16,7 @@ use Rattle.wrap.specs.declared.WrapAnswer.{WrapAnswer}
 use Rattle.wrap.specs.declared.WrapAnswer.the-variants.{WrapDone, WrapKey, WrapSize, WrapRoom, WrongInitial}
 use Rattle.promises.proofs.Keys.{KeyTaken}
 use Rattle.promises.proofs.WrapTerms.{afterWrap, afterUnwrap, WrapFit, WrapSays, UnwrapFit, UnwrapSays, WrappingOf}
-use Rattle.promises.proofs.WrapLaws.{step-octets, unstep-octets, unstep-step, step-unstep, pass-octets, unpass-octets, unpass-pass, pass-unpass, passes-octets, unpasses-octets, unpasses-passes, passes-unpasses, wrapped-octets, unwrapped-wrapped, opened-octets, wrapped-unwrapped, size-rule, rule-size, wrapped-size-rule, rule-wrapped-size, size-wraps, size-unwraps, wrap-says, unwrap-says, wrap-fits, unwrap-fits, done-fits, wrap-keeps, unwrap-keeps, over-first}
+use Rattle.promises.proofs.Lemmas.WrapLaws.{step-octets, unstep-octets, unstep-step, step-unstep, pass-octets, unpass-octets, unpass-pass, pass-unpass, passes-octets, unpasses-octets, unpasses-passes, passes-unpasses, wrapped-octets, unwrapped-wrapped, opened-octets, wrapped-unwrapped, size-rule, rule-size, wrapped-size-rule, rule-wrapped-size, size-wraps, size-unwraps, wrap-says, unwrap-says, wrap-fits, unwrap-fits, done-fits, wrap-keeps, unwrap-keeps, over-first}
 
 -- ---- demand 3, over every lawful block cipher: each way undoes the other
 

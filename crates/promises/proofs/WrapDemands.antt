@@ -13,7 +13,7 @@ use Rattle.wrap.specs.declared.WrapAnswer.{WrapAnswer}
 use Rattle.wrap.specs.declared.WrapAnswer.the-variants.{WrapDone, WrapKey, WrapSize, WrapRoom, WrongInitial}
 use Rattle.promises.proofs.Keys.{KeyTaken}
 use Rattle.promises.proofs.WrapTerms.{afterWrap, afterUnwrap, WrapFit, WrapSays, UnwrapFit, UnwrapSays, WrappingOf}
-use Rattle.promises.proofs.WrapLaws.{wrap-keeps, unwrap-keeps}
+use Rattle.promises.proofs.Lemmas.WrapLaws.{wrap-keeps, unwrap-keeps}
 use Rattle.promises.proofs.Wrap.{wrap-answer-as-told, unwrap-answer-as-told, wrap-never-19, fit-is-wrapped, fit-is-unwrapped, key-data-is-wrapped, unwrap-after-wrap, accepted-exactly-wrappings, accepted-is-handed-out}
 use Rattle.wrap.proofs.wrap.Reads as wrap
 use Rattle.wrap.proofs.unwrap.Reads as unwrap

@@ -3,14 +3,14 @@ mod loops;
 
 use crate::loops::cipher;
 use crate::loops::cipher_two;
-use crate::loops::inv_cipher;
-use crate::loops::inv_cipher_two;
+use crate::loops::eq_inv_cipher;
+use crate::loops::eq_inv_cipher_two;
 use schedule::is_round_count;
 use states::load;
 use states::store;
 ghost use mathlib.Core.Path.{_≡_};
 ghost use Rattle.octets.specs.Octets.{entry};
-ghost use Rattle.lookups.specs.Tables.{tableEncrypt, tableDecrypt};
+ghost use Rattle.lookups.specs.Lookups.{tableEncrypt, tableDecrypt};
 ghost use Rattle.rounds.specs.Pairs.{both};
 
 // Two blocks ciphered side by side, each on its own.
@@ -44,7 +44,7 @@ pub fn decrypt_block(
     ensures { λ r. ⌜ r ≡ tableDecrypt (entry (now (table .entry))) (now (words .entry)) rounds block ⌝ }
 {
     if is_round_count(rounds) {
-        return store(inv_cipher(table, words, rounds, load(block)));
+        return store(eq_inv_cipher(table, words, rounds, load(block)));
     }
     [0u8; 16]
 }
@@ -84,7 +84,7 @@ pub fn decrypt_two(
     ensures { λ r. ⌜ r ≡ both (tableDecrypt (entry (now (table .entry))) (now (words .entry)) rounds) first second ⌝ }
 {
     if is_round_count(rounds) {
-        let t = inv_cipher_two(table, words, rounds, load(first), load(second));
+        let t = eq_inv_cipher_two(table, words, rounds, load(first), load(second));
         let a = t.first;
         let b = t.second;
         return Two {

@@ -1,16 +1,16 @@
 // The rounds of FIPS 197 on a state of four columns, each a word, by lookups in a table of words.
 use lookups::Columns;
 use schedule::RoundKeyNumber;
-use states::looked;
-use states::looked_last;
 use states::mirrored;
 use states::mix_columns;
+use states::sub_shift;
+use states::sub_shift_mix;
 ghost use mathlib.Core.Path.{_≡_};
 ghost use Prim.Native.Nat.{_-_, _*_, _<_};
 ghost use Rattle.octets.specs.Octets.{entry};
-ghost use Rattle.lookups.specs.Tables.{keyed, tableRounds, tableForth, tableBack, mixedEach};
+ghost use Rattle.lookups.specs.Lookups.{addKeyWords, tableRounds, tableForth, tableBack, mixedEach};
 ghost use Rattle.rounds.specs.Pairs.{bothStates};
-ghost use Rattle.lookups.specs.Tables as spec;
+ghost use Rattle.lookups.specs.Lookups as spec;
 
 // Two states on their way through the same rounds, neither of which waits for the other.
 pub struct TwoStates {
@@ -22,17 +22,17 @@ pub fn cipher(table: &[u32; 256], words: &[u32; 60], rounds: usize, s: Columns) 
     requires { ⌜ (0 < rounds) × (rounds < 15) ⌝ }
     ensures { λ r. ⌜ r ≡ tableForth (entry (now (table .entry))) (now (words .entry)) rounds s ⌝ }
 {
-    let t = rounds_before(table, words, rounds, s);
-    add_round_key(words, RoundKeyNumber(rounds), looked_last(table, t))
+    let t = all_but_last(table, words, rounds, s);
+    add_round_key(words, RoundKeyNumber(rounds), sub_shift(table, t))
 }
 
 // The same rounds over the inverse table and the schedule for the way back: with columns 1 and 3 exchanged the rows shift the other way.
-pub fn inv_cipher(table: &[u32; 256], words: &[u32; 60], rounds: usize, s: Columns) -> Columns
+pub fn eq_inv_cipher(table: &[u32; 256], words: &[u32; 60], rounds: usize, s: Columns) -> Columns
     requires { ⌜ (0 < rounds) × (rounds < 15) ⌝ }
     ensures { λ r. ⌜ r ≡ tableBack (entry (now (table .entry))) (now (words .entry)) rounds s ⌝ }
 {
-    let t = rounds_before(table, words, rounds, mirrored(s));
-    inv_last(table, words, rounds, t)
+    let t = all_but_last(table, words, rounds, mirrored(s));
+    eq_inv_last(table, words, rounds, t)
 }
 
 pub fn cipher_two(
@@ -45,16 +45,16 @@ pub fn cipher_two(
     requires { ⌜ (0 < rounds) × (rounds < 15) ⌝ }
     ensures { λ r. ⌜ r ≡ bothStates (tableForth (entry (now (table .entry))) (now (words .entry)) rounds) a b ⌝ }
 {
-    let t = rounds_before_two(table, words, rounds, a, b);
+    let t = all_but_last_two(table, words, rounds, a, b);
     let p = t.first;
     let q = t.second;
     TwoStates {
-        first: add_round_key(words, RoundKeyNumber(rounds), looked_last(table, p)),
-        second: add_round_key(words, RoundKeyNumber(rounds), looked_last(table, q)),
+        first: add_round_key(words, RoundKeyNumber(rounds), sub_shift(table, p)),
+        second: add_round_key(words, RoundKeyNumber(rounds), sub_shift(table, q)),
     }
 }
 
-pub fn inv_cipher_two(
+pub fn eq_inv_cipher_two(
     table: &[u32; 256],
     words: &[u32; 60],
     rounds: usize,
@@ -64,28 +64,28 @@ pub fn inv_cipher_two(
     requires { ⌜ (0 < rounds) × (rounds < 15) ⌝ }
     ensures { λ r. ⌜ r ≡ bothStates (tableBack (entry (now (table .entry))) (now (words .entry)) rounds) a b ⌝ }
 {
-    let t = rounds_before_two(table, words, rounds, mirrored(a), mirrored(b));
+    let t = all_but_last_two(table, words, rounds, mirrored(a), mirrored(b));
     let p = t.first;
     let q = t.second;
     TwoStates {
-        first: inv_last(table, words, rounds, p),
-        second: inv_last(table, words, rounds, q),
+        first: eq_inv_last(table, words, rounds, p),
+        second: eq_inv_last(table, words, rounds, q),
     }
 }
 
 // All rounds but the last.
-fn rounds_before(table: &[u32; 256], words: &[u32; 60], rounds: usize, s: Columns) -> Columns
+fn all_but_last(table: &[u32; 256], words: &[u32; 60], rounds: usize, s: Columns) -> Columns
     requires { ⌜ (0 < rounds) × (rounds < 15) ⌝ }
-    ensures { λ r. ⌜ r ≡ tableRounds (entry (now (table .entry))) (now (words .entry)) (rounds - 1) (keyed (now (words .entry)) 0 s) ⌝ }
+    ensures { λ r. ⌜ r ≡ tableRounds (entry (now (table .entry))) (now (words .entry)) (rounds - 1) (addKeyWords (now (words .entry)) 0 s) ⌝ }
 {
     let mut t = add_round_key(words, RoundKeyNumber(0), s);
     for n in 1..rounds {
-        t = add_round_key(words, RoundKeyNumber(n), looked(table, t));
+        t = add_round_key(words, RoundKeyNumber(n), sub_shift_mix(table, t));
     }
     t
 }
 
-fn rounds_before_two(
+fn all_but_last_two(
     table: &[u32; 256],
     words: &[u32; 60],
     rounds: usize,
@@ -93,13 +93,13 @@ fn rounds_before_two(
     b: Columns,
 ) -> TwoStates
     requires { ⌜ (0 < rounds) × (rounds < 15) ⌝ }
-    ensures { λ r. ⌜ r ≡ bothStates (λ s. tableRounds (entry (now (table .entry))) (now (words .entry)) (rounds - 1) (keyed (now (words .entry)) 0 s)) a b ⌝ }
+    ensures { λ r. ⌜ r ≡ bothStates (λ s. tableRounds (entry (now (table .entry))) (now (words .entry)) (rounds - 1) (addKeyWords (now (words .entry)) 0 s)) a b ⌝ }
 {
     let mut s = add_round_key(words, RoundKeyNumber(0), a);
     let mut t = add_round_key(words, RoundKeyNumber(0), b);
     for k in 1..rounds {
-        s = add_round_key(words, RoundKeyNumber(k), looked(table, s));
-        t = add_round_key(words, RoundKeyNumber(k), looked(table, t));
+        s = add_round_key(words, RoundKeyNumber(k), sub_shift_mix(table, s));
+        t = add_round_key(words, RoundKeyNumber(k), sub_shift_mix(table, t));
     }
     TwoStates {
         first: s,
@@ -108,17 +108,17 @@ fn rounds_before_two(
 }
 
 // The last round of the way back, from the state after the others.
-fn inv_last(table: &[u32; 256], words: &[u32; 60], rounds: usize, s: Columns) -> Columns
+fn eq_inv_last(table: &[u32; 256], words: &[u32; 60], rounds: usize, s: Columns) -> Columns
     requires { ⌜ rounds < 15 ⌝ }
-    ensures { λ r. ⌜ r ≡ spec.mirrored (keyed (now (words .entry)) rounds (mixedEach (spec.looked (entry (now (table .entry))) s))) ⌝ }
+    ensures { λ r. ⌜ r ≡ spec.mirrored (addKeyWords (now (words .entry)) rounds (mixedEach (spec.subShiftMix (entry (now (table .entry))) s))) ⌝ }
 {
-    let u = mix_columns(looked(table, s));
+    let u = mix_columns(sub_shift_mix(table, s));
     mirrored(add_round_key(words, RoundKeyNumber(rounds), u))
 }
 
 fn add_round_key(words: &[u32; 60], n: RoundKeyNumber, s: Columns) -> Columns
     requires { ⌜ n .0 < 15 ⌝ }
-    ensures { λ r. ⌜ r ≡ keyed (now (words .entry)) (n .0) s ⌝ }
+    ensures { λ r. ⌜ r ≡ addKeyWords (now (words .entry)) (n .0) s ⌝ }
 {
     let first = n.first_word();
     let i = first.0;

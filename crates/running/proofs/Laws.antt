@@ -8,11 +8,11 @@ use lib.Seq.{drop-append-le, take-append-seam, drop-drop, drop-append-add}
 use Rattle.octets.specs.Octets.{padTo, Bytes, Octets}
 use Rattle.octets.specs.Blocks.{_⊕_, BlockCipher}
 use Rattle.octets.proofs.Blocks.{take-bytes, append-bytes}
-use Rattle.sp800_38b.specs.Cmac.{key1, key2, last, earlier, chained, ended, endedBy, cmac, cmacBy}
+use Rattle.sp800_38b.specs.Cmac.{key1, key2, last, beforeLast, chained, ended, endedBy, cmac, cmacBy}
 use Rattle.sp800_38b.proofs.Chain.{drop-piece, chained-add, chained-front}
 use Rattle.sp800_38b.proofs.Filling.{piece, piece-short, piece-full, held-length}
 use Rattle.sp800_38b.proofs.Same.{chained-same, ended-same}
-use Rattle.running.specs.Running.{heldBytes, holding, takenIn, begun, fed, closed, closedBy}
+use Rattle.running.specs.Running.{heldBytes, holding, runFrom, begun, fed, closed, closedBy}
 use Rattle.running.specs.declared.Run.{Run}
 
 module _ (c : BlockCipher) where
@@ -25,53 +25,53 @@ module _ (c : BlockCipher) where
   closed-by r = refl
 
   -- a first piece that is not the last
-  pub taken-step : (st s : List ℕ) → 16 < length s → takenIn c st s ≡ takenIn c (c .enc (st ⊕ take 16 s)) (drop 16 s)
-  unfolding takenIn chained
+  pub taken-step : (st s : List ℕ) → 16 < length s → runFrom c st s ≡ runFrom c (c .enc (st ⊕ take 16 s)) (drop 16 s)
+  unfolding runFrom chained
   taken-step st s h =
-      let e : earlier s ≡ suc (earlier (drop 16 s)) = omega (arith, length-drop 16 s) in
+      let e : beforeLast s ≡ suc (beforeLast (drop 16 s)) = omega (arith, length-drop 16 s) in
       ap (λ (n : ℕ). holding (chained c st n s) (drop (n * 16) s)) e
-      ∙ ap (holding (chained c (c .enc (st ⊕ take 16 s)) (earlier (drop 16 s)) (drop 16 s))) (sym (drop-piece (earlier (drop 16 s)) s))
+      ∙ ap (holding (chained c (c .enc (st ⊕ take 16 s)) (beforeLast (drop 16 s)) (drop 16 s))) (sym (drop-piece (beforeLast (drop 16 s)) s))
 
   -- fed in two parts, or in one
-  pub taken-more : (st s t : List ℕ) → takenIn c (chained c st (earlier s) s) (drop (earlier s * 16) s ++ t) ≡ takenIn c st (s ++ t)
-  unfolding takenIn
+  pub taken-more : (st s t : List ℕ) → runFrom c (chained c st (beforeLast s) s) (drop (beforeLast s * 16) s ++ t) ≡ runFrom c st (s ++ t)
+  unfolding runFrom
   taken-more st s t =
-      let n = earlier s in
+      let n = beforeLast s in
       let h : n * 16 ≤ length s = omega arith in
       let d : drop (n * 16) s ++ t ≡ drop (n * 16) (s ++ t) = sym (drop-append-le (n * 16) s t h) in
-      let k = earlier (drop (n * 16) (s ++ t)) in
-      let e : n + k ≡ earlier (s ++ t) = omega (arith, length-append s t, length-drop (n * 16) (s ++ t)) in
+      let k = beforeLast (drop (n * 16) (s ++ t)) in
+      let e : n + k ≡ beforeLast (s ++ t) = omega (arith, length-append s t, length-drop (n * 16) (s ++ t)) in
       let m : n * 16 + k * 16 ≡ (n + k) * 16 = omega arith in
       rw d
       (ap₂ holding
       (ap (λ (x : List ℕ). chained c x k (drop (n * 16) (s ++ t))) (sym (chained-front c n st s t h)) ∙ sym (chained-add c n k st (s ++ t)) ∙ ap (λ (i : ℕ). chained c st i (s ++ t)) e)
       (drop-drop (k * 16) (n * 16) (s ++ t) ∙ ap (λ (i : ℕ). drop i (s ++ t)) (m ∙ ap (λ (i : ℕ). i * 16) e)))
 
-  pub fed-taken : (st s t : List ℕ) → fed c (takenIn c st s) t ≡ takenIn c st (s ++ t)
-  unfolding fed takenIn padTo
+  pub fed-taken : (st s t : List ℕ) → fed c (runFrom c st s) t ≡ runFrom c st (s ++ t)
+  unfolding fed runFrom padTo
   fed-taken st s t =
-      ap (λ (x : List ℕ). takenIn c (chained c st (earlier s) s) (x ++ t))
-      (take-append-seam (drop (earlier s * 16) s) (replicate (16 - length (drop (earlier s * 16) s)) 0))
+      ap (λ (x : List ℕ). runFrom c (chained c st (beforeLast s) s) (x ++ t))
+      (take-append-seam (drop (beforeLast s * 16) s) (replicate (16 - length (drop (beforeLast s * 16) s)) 0))
       ∙ taken-more st s t
 
-  pub begun-taken : begun ≡ takenIn c (replicate 16 0) []
-  unfolding begun takenIn chained
+  pub begun-taken : begun ≡ runFrom c (replicate 16 0) []
+  unfolding begun runFrom chained
   begun-taken = refl
 
   -- started, fed and closed: the check of all that was fed
-  pub whole : (s : List ℕ) → closed c (takenIn c (replicate 16 0) s) ≡ cmac c s
-  unfolding takenIn cmac
-  whole s = closed-holding (chained c (replicate 16 0) (earlier s) s) (drop (earlier s * 16) s)
+  pub whole : (s : List ℕ) → closed c (runFrom c (replicate 16 0) s) ≡ cmac c s
+  unfolding runFrom cmac
+  whole s = closed-holding (chained c (replicate 16 0) (beforeLast s) s) (drop (beforeLast s * 16) s)
 
   pub whole-fed : (s : List ℕ) → closed c (fed c begun s) ≡ cmac c s
   whole-fed s = ap (λ (r : Run). closed c (fed c r s)) begun-taken ∙ ap (closed c) (fed-taken (replicate 16 0) [] s) ∙ whole s
 
   -- the same with subkeys that were made before
-  held-by : (k1 k2 m : List ℕ) → closedBy c k1 k2 (takenIn c (replicate 16 0) m) ≡ cmacBy c k1 k2 m
-  unfolding takenIn closedBy padTo cmacBy
+  held-by : (k1 k2 m : List ℕ) → closedBy c k1 k2 (runFrom c (replicate 16 0) m) ≡ cmacBy c k1 k2 m
+  unfolding runFrom closedBy padTo cmacBy
   held-by k1 k2 m =
-      ap (endedBy c k1 k2 (chained c (replicate 16 0) (earlier m) m))
-      (take-append-seam (drop (earlier m * 16) m) (replicate (16 - length (drop (earlier m * 16) m)) 0))
+      ap (endedBy c k1 k2 (chained c (replicate 16 0) (beforeLast m) m))
+      (take-append-seam (drop (beforeLast m * 16) m) (replicate (16 - length (drop (beforeLast m * 16) m)) 0))
 
   -- and the message in two parts
   pub whole-by : (k1 k2 s t : List ℕ) → closedBy c k1 k2 (fed c (fed c begun s) t) ≡ cmacBy c k1 k2 (s ++ t)
@@ -87,15 +87,15 @@ module _ (held : List ℕ) (size : length held ≡ 16) (c : BlockCipher) (st : L
   pub fed-room : length part ≤ 16 - count
       → _≡_ {A = Run} (record { chain = st; held = piece (take count held ++ part); count = 16 - (16 - count) + length part })
       (fed c (record { chain = st; held = held; count = count }) part)
-  unfolding fed takenIn chained
+  unfolding fed runFrom chained
   fed-room h =
       let s = take count held ++ part in
       let l : length s ≡ 16 - (16 - count) + length part = length-append (take count held) part ∙ ap (_+ length part) (held-length held size count) in
-      let z : earlier s ≡ 0 = omega arith in
+      let z : beforeLast s ≡ 0 = omega arith in
       rw (z, ← l, piece-short s (omega arith))
 
   pub fed-over : 16 - count < length part
-      → takenIn c (c .enc (st ⊕ piece (take count held ++ part))) (drop (16 - count) part)
+      → runFrom c (c .enc (st ⊕ piece (take count held ++ part))) (drop (16 - count) part)
       ≡ fed c (record { chain = st; held = held; count = count }) part
   unfolding fed
   fed-over h =
@@ -104,26 +104,26 @@ module _ (held : List ℕ) (size : length held ≡ 16) (c : BlockCipher) (st : L
       let n : length p + (16 - count) ≡ 16 = omega (arith, held-length held size count) in
       let d : drop 16 (p ++ part) ≡ drop (16 - count) part = ap (λ (k : ℕ). drop k (p ++ part)) (sym n) ∙ drop-append-add p part (16 - count) in
       sym (taken-step c st (p ++ part) (omega (arith, held-length held size count))
-      ∙ ap₂ (λ (x y : List ℕ). takenIn c (c .enc (st ⊕ x)) y) (sym (piece-full (p ++ part) (omega (arith, held-length held size count)))) d)
+      ∙ ap₂ (λ (x y : List ℕ). runFrom c (c .enc (st ⊕ x)) y) (sym (piece-full (p ++ part) (omega (arith, held-length held size count)))) d)
 
 -- ---- a run that held nothing
 
-pub taken-holding : (c : BlockCipher) (st part : List ℕ) (n : ℕ) (value rest held : List ℕ) → n ≡ earlier part → value ≡ chained c st n part → rest ≡ drop (n * 16) part
-    → held ≡ piece rest → _≡_ {A = Run} (record { chain = value; held = held; count = length rest }) (takenIn c st part)
-unfolding takenIn
+pub taken-holding : (c : BlockCipher) (st part : List ℕ) (n : ℕ) (value rest held : List ℕ) → n ≡ beforeLast part → value ≡ chained c st n part → rest ≡ drop (n * 16) part
+    → held ≡ piece rest → _≡_ {A = Run} (record { chain = value; held = held; count = length rest }) (runFrom c st part)
+unfolding runFrom
 taken-holding c st part n value rest held pn pv pr ph =
-    let short : length (drop (earlier part * 16) part) ≤ 16 = omega (arith, length-drop (earlier part * 16) part) in
-    rw (ph, pv, pr, pn, piece-short (drop (earlier part * 16) part) short)
+    let short : length (drop (beforeLast part * 16) part) ≤ 16 = omega (arith, length-drop (beforeLast part * 16) part) in
+    rw (ph, pv, pr, pn, piece-short (drop (beforeLast part * 16) part) short)
 
 -- ---- c and d agree on blocks, and blocks go to blocks
 
 module _ (c d : BlockCipher) (same : (x : List ℕ) → Octets 16 x → c .enc x ≡ d .enc x) (enc-block : (x : List ℕ) → Octets 16 x → Octets 16 (d .enc x)) where
   pub fed-same : (r : Run) (part : List ℕ) → Octets 16 (r .chain) → Bytes (r .held) → Bytes part → fed c r part ≡ fed d r part
-  unfolding fed takenIn
+  unfolding fed runFrom
   fed-same r part o b p =
       let s = heldBytes r ++ part in
-      ap (λ (x : List ℕ). holding x (drop (earlier s * 16) s))
-      (chained-same c d same enc-block (earlier s) (r .chain) s o (append-bytes (heldBytes r) part (take-bytes (r .count) (r .held) b) p) (omega arith))
+      ap (λ (x : List ℕ). holding x (drop (beforeLast s * 16) s))
+      (chained-same c d same enc-block (beforeLast s) (r .chain) s o (append-bytes (heldBytes r) part (take-bytes (r .count) (r .held) b) p) (omega arith))
 
   pub closed-same : (r : Run) → Octets 16 (r .chain) → Octets 16 (r .held) → closed c r ≡ closed d r
   unfolding closed

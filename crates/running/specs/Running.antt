@@ -5,7 +5,7 @@ use mathlib.Core.List.{List, [], _++_}
 use lib.ListN.{length, take, drop, replicate}
 use Rattle.octets.specs.Octets.{padTo}
 use Rattle.octets.specs.Blocks.{BlockCipher}
-use Rattle.sp800_38b.specs.Cmac.{earlier, chained, ended, endedBy}
+use Rattle.sp800_38b.specs.Cmac.{beforeLast, chained, ended, endedBy}
 use Rattle.running.specs.declared.Run.{Run}
 
 -- the bytes that a run holds; a count past 16, which no start makes, stands for 16
@@ -17,15 +17,15 @@ abbrev pub holding : List ℕ → List ℕ → Run
 holding st b = record { chain = st; held = padTo 16 b; count = length b }
 
 -- the run after the bytes s, from the value st of the chain with nothing held
-unfoldable pub takenIn : BlockCipher → List ℕ → List ℕ → Run
-takenIn c st s = holding (chained c st (earlier s) s) (drop (earlier s * 16) s)
+unfoldable pub runFrom : BlockCipher → List ℕ → List ℕ → Run
+runFrom c st s = holding (chained c st (beforeLast s) s) (drop (beforeLast s * 16) s)
 
 -- a run that was fed nothing yet
 unfoldable pub begun : Run
 begun = holding (replicate 16 0) []
 
 unfoldable pub fed : BlockCipher → Run → List ℕ → Run
-fed c r part = takenIn c (r .chain) (heldBytes r ++ part)
+fed c r part = runFrom c (r .chain) (heldBytes r ++ part)
 
 unfoldable pub closed : BlockCipher → Run → List ℕ
 closed c r = ended c (r .chain) (heldBytes r)

@@ -5,11 +5,11 @@ use rounds::encrypt_block;
 ghost use mathlib.Core.Path.{_≡_};
 ghost use Prim.Native.Nat.{_-_, _*_, _/_, _≤_};
 ghost use lib.ListN.{length};
-ghost use Rattle.lookups.specs.Tables.{oneTable};
+ghost use Rattle.lookups.specs.Lookups.{oneTable};
 ghost use Rattle.sp800_38b.specs.Cmac as spec;
 
 // How many pieces of a message of this length come before its last one.
-pub fn earlier(length: usize) -> usize
+pub fn before_last(length: usize) -> usize
     ensures { λ r. ⌜ r ≡ (length - 1) / 16 ⌝ }
 {
     if length == 0 {

@@ -1,15 +1,15 @@
 // The running check: what is fed goes into the chain piece by piece, but for the last piece, which is held until more comes.
 mod chain;
 
+use crate::chain::before_last;
 use crate::chain::chained;
-use crate::chain::earlier;
 use blocks::xor;
 use rounds::encrypt_block;
 use subkeys::filled;
 use subkeys::last;
 ghost use mathlib.Core.Path.{_≡_};
 ghost use Prim.Native.Nat.{_-_};
-ghost use Rattle.lookups.specs.Tables.{oneTable};
+ghost use Rattle.lookups.specs.Lookups.{oneTable};
 ghost use Rattle.running.specs.Running as running;
 
 // The value of the chain, and the bytes that are not in it yet, of which there are up to 16.
@@ -46,7 +46,7 @@ impl Run {
             };
         }
         let next = encrypt_block(table, words, rounds, xor(chain, piece));
-        taken_in(table, words, rounds, next, &part[room..])
+        run_from(table, words, rounds, next, &part[room..])
     }
 
     // The check of all that was fed, with the subkeys lent: whoever makes many checks makes them once.
@@ -68,16 +68,16 @@ impl Run {
 }
 
 // From a value of the chain, with nothing held.
-fn taken_in(
+fn run_from(
     table: &[u32; 256],
     words: &[u32; 60],
     rounds: usize,
     chain: [u8; 16],
     part: &[u8],
 ) -> Run
-    ensures { λ r. ⌜ r ≡ running.takenIn (oneTable (now (table .entry)) (now (words .entry)) rounds) chain (now (part .entry)) ⌝ }
+    ensures { λ r. ⌜ r ≡ running.runFrom (oneTable (now (table .entry)) (now (words .entry)) rounds) chain (now (part .entry)) ⌝ }
 {
-    let n = earlier(part.len());
+    let n = before_last(part.len());
     let after = chained(table, words, rounds, chain, n, part);
     let rest = &part[n * 16..];
     let held = filled([0u8; 16], 0, rest);

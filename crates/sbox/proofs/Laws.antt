@@ -8,7 +8,7 @@ use Rattle.octets.proofs.Tests.{at-each, below, on-bytes}
 use Rattle.octets.proofs.Fill.{is-tabulate, getD-tabulate}
 use Rattle.field.specs.Field.{xTimes, productWithin, _•_}
 use Rattle.sbox.specs.Sbox.{square, powerWithin, inverse, bit, fromBits, affine, invAffine, sBox, invSBox}
-use Rattle.sbox.proofs.Tables.{sBoxTable, invSBoxTable}
+use Rattle.sbox.proofs.Lists.{sBoxTable, invSBoxTable}
 
 -- the product with the inverse is 1 for every byte but 0
 pub inverse-rule : (k : ℕ) → k < 256 → k • inverse k ≡ choose (eqb k 0) 0 1

@@ -3,7 +3,7 @@ use field::double;
 use sbox::table;
 use words::join;
 use words::rot_word;
-use words::substitute;
+use words::sub_word;
 ghost use mathlib.Core.Path.{_≡_};
 ghost use Prim.Native.Nat.{_+_, _*_, _≤_, _<_};
 ghost use lib.ListN.{length};
@@ -85,13 +85,13 @@ fn scheduled(sbox: &[u8; 256], key: &[u8]) -> Expanded
     ensures { λ r. ⌜ r ≡ scheduleOf (entry (now (sbox .entry))) (now (key .entry)) ⌝ }
 {
     if key.len() == 16 {
-        return made(sbox, key, KeySchedule::WORDS_16, KeySchedule::ROUNDS_16);
+        return of_size(sbox, key, KeySchedule::WORDS_16, KeySchedule::ROUNDS_16);
     }
     if key.len() == 24 {
-        return made(sbox, key, KeySchedule::WORDS_24, KeySchedule::ROUNDS_24);
+        return of_size(sbox, key, KeySchedule::WORDS_24, KeySchedule::ROUNDS_24);
     }
     if key.len() == 32 {
-        return made(sbox, key, KeySchedule::WORDS_32, KeySchedule::ROUNDS_32);
+        return of_size(sbox, key, KeySchedule::WORDS_32, KeySchedule::ROUNDS_32);
     }
     Expanded {
         answer: KeyAnswer::KeyLength,
@@ -116,7 +116,7 @@ pub fn is_round_count(n: usize) -> bool
 }
 
 // Of nk words of key, for nr rounds.
-fn made(sbox: &[u8; 256], key: &[u8], nk: usize, nr: usize) -> Expanded
+fn of_size(sbox: &[u8; 256], key: &[u8], nk: usize, nr: usize) -> Expanded
     requires { ⌜ (0 < nk) × ((nk * 4 ≤ length (now key)) × (nr < 15)) ⌝ }
     ensures { λ r. ⌜ r ≡ taken (entry (now (sbox .entry))) (now (key .entry)) nk nr ⌝ }
 {
@@ -148,7 +148,7 @@ fn next_word(sbox: &[u8; 256], key: &[u8], nk: usize, words: &[u32; 60], i: usiz
     if i < nk {
         return key_word(key, i);
     }
-    words[i - nk] ^ added(sbox, nk, i, words[i - 1])
+    words[i - nk] ^ temp(sbox, nk, i, words[i - 1])
 }
 
 fn key_word(key: &[u8], i: usize) -> u32
@@ -159,23 +159,23 @@ fn key_word(key: &[u8], i: usize) -> u32
 }
 
 // What word i adds to the word nk before it: the last word, by turns rotated, substituted, or as it is.
-fn added(sbox: &[u8; 256], nk: usize, i: usize, last: u32) -> u32
+fn temp(sbox: &[u8; 256], nk: usize, i: usize, last: u32) -> u32
     requires { ⌜ (0 < nk) × (nk ≤ i) ⌝ }
     ensures { λ r. ⌜ r ≡ temp (entry (now (sbox .entry))) nk i last ⌝ }
 {
     if i % nk == 0 {
         let x = rot_word(last);
-        return substitute(sbox, x, x, x, x) ^ round_constant(i / nk);
+        return sub_word(sbox, x) ^ rcon(i / nk);
     }
     if 6 < nk {
         if i % nk == 4 {
-            return substitute(sbox, last, last, last, last);
+            return sub_word(sbox, last);
         }
     }
     last
 }
 
-fn round_constant(n: usize) -> u32
+fn rcon(n: usize) -> u32
     requires { ⌜ 0 < n ⌝ }
     ensures { λ r. ⌜ r ≡ rCon n ⌝ }
 {

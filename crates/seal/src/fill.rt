@@ -9,7 +9,7 @@ ghost use Prim.Native.Nat.{_<_};
 ghost use lib.Dec.{eqb, leb};
 ghost use lib.ListN.{length, take, drop};
 ghost use Rattle.octets.specs.Octets.{entry};
-ghost use Rattle.lookups.specs.Tables.{tableEncrypt, tableCipher};
+ghost use Rattle.lookups.specs.Lookups.{tableEncrypt, tableCipher};
 ghost use Rattle.sp800_38a.specs.Equations.{previous};
 ghost use Rattle.format.specs.Sealed.{allZero, zeroAfter};
 

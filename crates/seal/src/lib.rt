@@ -21,7 +21,7 @@ use schedule::is_round_count;
 use sp800_38a::Operation;
 ghost use mathlib.Core.Path.{_≡_};
 ghost use mathlib.Core.Bool.{_&&_};
-ghost use Rattle.lookups.specs.Tables.{tableCipher, oneTable};
+ghost use Rattle.lookups.specs.Lookups.{tableCipher, oneTable};
 ghost use Rattle.format.specs.Edition.{one};
 ghost use Rattle.format.specs.Sealed.{checks};
 ghost use Rattle.format.specs.Judge.{standing};

@@ -8,7 +8,7 @@ use lib.ListN.{length, take, drop}
 use lib.Seq.{take-at, drop-at}
 use Rattle.octets.specs.Octets.{Bytes, Octets, over}
 use Rattle.octets.specs.Blocks.{_⊕_, BlockCipher, Lawful}
-use Rattle.sp800_38a.specs.Pieces.{Machine, made, after, piece, pieceCount}
+use Rattle.sp800_38a.specs.Pieces.{Machine, outputOf, after, piece, pieceCount}
 use Rattle.sp800_38a.specs.Modes.{machine, moded}
 use Rattle.sp800_38a.specs.Equations.{previous, outputBlock, Equation}
 use Rattle.sp800_38a.specs.declared.Operation.{Operation}
@@ -18,19 +18,19 @@ use Rattle.sp800_38a.proofs.Undo.{ChainOf, keeps, whole}
 
 -- piece i comes out of the state after the pieces before it
 piece-made : (z : ℕ) (m : Machine) (G : List ℕ → Type 0) → Keeps m G (Octets z) → (n i : ℕ) (st s rest : List ℕ) → G st → Each z (Octets z) n s → i < n
-    → piece z (made z m st n s ++ rest) i ≡ m .out (after z m st i s) (piece z s i)
-unfolding made after
+    → piece z (outputOf z m st n s ++ rest) i ≡ m .out (after z m st i s) (piece z s i)
+unfolding outputOf after
 piece-made z m G k zero i st s rest g e h = absurd (not-suc-le-zero h)
 piece-made z m G k (suc n) zero st s rest g e h =
     let l = k .size st (take z s) g (e .0) ∙ e .0 .size in
-    let t = made z m (m .next st (take z s)) n (drop z s) in
+    let t = outputOf z m (m .next st (take z s)) n (drop z s) in
     piece-zero z m ((m .out st (take z s) ++ t) ++ rest)
     ∙ ap (take z) (append-assoc (m .out st (take z s)) t rest) ∙ take-at (m .out st (take z s)) (t ++ rest) z l
     ∙ ap (m .out st) (sym (piece-zero z m s))
 piece-made z m G k (suc n) (suc i) st s rest g e h =
     let l = k .size st (take z s) g (e .0) ∙ e .0 .size in
     let st' = m .next st (take z s) in
-    let t = made z m st' n (drop z s) in
+    let t = outputOf z m st' n (drop z s) in
     piece-suc z m ((m .out st (take z s) ++ t) ++ rest) i
     ∙ ap (λ (x : List ℕ). piece z x i) (ap (drop z) (append-assoc (m .out st (take z s)) t rest) ∙ drop-at (m .out st (take z s)) (t ++ rest) z l)
     ∙ piece-made z m G k n i st' (drop z s) rest (k .state st (take z s) g (e .0)) (e .1) (le-of-suc-le-suc h)

@@ -8,7 +8,7 @@ use lib.ListN.{length, take, drop, length-append, length-take, length-drop}
 use lib.Seq.{drop-drop}
 use Rattle.octets.specs.Octets.{Octets, Bytes}
 use Rattle.octets.proofs.Blocks.{take-octets, drop-bytes, append-bytes}
-use Rattle.sp800_38a.specs.Pieces.{Machine, made, after, piece, pieceCount}
+use Rattle.sp800_38a.specs.Pieces.{Machine, outputOf, after, piece, pieceCount}
 
 module _ (z : ℕ) (m : Machine) where
   -- piece i + 1 is piece i of the rest
@@ -26,13 +26,13 @@ module _ (z : ℕ) (m : Machine) where
       after-more n (m .next st (take z s)) (drop z s)
       ∙ ap (m .next (after z m (m .next st (take z s)) n (drop z s))) (sym (piece-suc s n))
 
-  pub made-more : (n : ℕ) (st s : List ℕ) → made z m st (suc n) s ≡ made z m st n s ++ m .out (after z m st n s) (piece z s n)
-  unfolding made after
+  pub made-more : (n : ℕ) (st s : List ℕ) → outputOf z m st (suc n) s ≡ outputOf z m st n s ++ m .out (after z m st n s) (piece z s n)
+  unfolding outputOf after
   made-more zero st s = append-nil (m .out st (take z s)) ∙ ap (m .out st) (sym (piece-zero s))
   made-more (suc n) st s =
       let st' = m .next st (take z s) in
-      ap (m .out st (take z s) ++_) (made-more n st' (drop z s) ∙ ap (λ (p : List ℕ). made z m st' n (drop z s) ++ m .out (after z m st' n (drop z s)) p) (sym (piece-suc s n)))
-      ∙ sym (append-assoc (m .out st (take z s)) (made z m st' n (drop z s)) (m .out (after z m st' n (drop z s)) (piece z s (suc n))))
+      ap (m .out st (take z s) ++_) (made-more n st' (drop z s) ∙ ap (λ (p : List ℕ). outputOf z m st' n (drop z s) ++ m .out (after z m st' n (drop z s)) p) (sym (piece-suc s n)))
+      ∙ sym (append-assoc (m .out st (take z s)) (outputOf z m st' n (drop z s)) (m .out (after z m st' n (drop z s)) (piece z s (suc n))))
 
 -- all n pieces have P, and nothing is left
 abbrev pub Each : ℕ → (List ℕ → Type 0) → ℕ → List ℕ → Type 0
@@ -52,29 +52,29 @@ pub record Keeps (m : Machine) (G P : List ℕ → Type 0) : Type 0 where
   pub bytes : (st p : List ℕ) → G st → P p → Bytes (m .out st p)
 
 module _ (z : ℕ) (m : Machine) (G P : List ℕ → Type 0) (k : Keeps m G P) where
-  pub made-length : (n : ℕ) (st s : List ℕ) → G st → Each z P n s → length (made z m st n s) ≡ length s
-  unfolding made
+  pub made-length : (n : ℕ) (st s : List ℕ) → G st → Each z P n s → length (outputOf z m st n s) ≡ length s
+  unfolding outputOf
   made-length zero st s g e = sym e
   made-length (suc n) st s g e =
       let ih = made-length n (m .next st (take z s)) (drop z s) (k .state st (take z s) g (e .0)) (e .1) in
-      length-append (m .out st (take z s)) (made z m (m .next st (take z s)) n (drop z s))
+      length-append (m .out st (take z s)) (outputOf z m (m .next st (take z s)) n (drop z s))
       ∙ omega (arith, ih, k .size st (take z s) g (e .0), length-take z s, length-drop z s)
 
-  pub made-bytes : (n : ℕ) (st s : List ℕ) → G st → Each z P n s → Bytes (made z m st n s)
-  unfolding made
+  pub made-bytes : (n : ℕ) (st s : List ℕ) → G st → Each z P n s → Bytes (outputOf z m st n s)
+  unfolding outputOf
   made-bytes zero st s g e = λ i. omega arith
   made-bytes (suc n) st s g e =
-      append-bytes (m .out st (take z s)) (made z m (m .next st (take z s)) n (drop z s)) (k .bytes st (take z s) g (e .0))
+      append-bytes (m .out st (take z s)) (outputOf z m (m .next st (take z s)) n (drop z s)) (k .bytes st (take z s) g (e .0))
       (made-bytes n (m .next st (take z s)) (drop z s) (k .state st (take z s) g (e .0)) (e .1))
 
   -- another machine that does the same to such states and pieces
   pub made-same : (m' : Machine) → ((st p : List ℕ) → G st → P p → m' .out st p ≡ m .out st p) → ((st p : List ℕ) → G st → P p → m' .next st p ≡ m .next st p)
-      → (n : ℕ) (st s : List ℕ) → G st → Each z P n s → made z m' st n s ≡ made z m st n s
-  unfolding made
+      → (n : ℕ) (st s : List ℕ) → G st → Each z P n s → outputOf z m' st n s ≡ outputOf z m st n s
+  unfolding outputOf
   made-same m' o x zero st s g e = refl
   made-same m' o x (suc n) st s g e =
       ap₂ _++_ (o st (take z s) g (e .0))
-      (ap (λ (t : List ℕ). made z m' t n (drop z s)) (x st (take z s) g (e .0))
+      (ap (λ (t : List ℕ). outputOf z m' t n (drop z s)) (x st (take z s) g (e .0))
       ∙ made-same m' o x n (m .next st (take z s)) (drop z s) (k .state st (take z s) g (e .0)) (e .1))
 
   pub after-same : (m' : Machine) → ((st p : List ℕ) → G st → P p → m' .next st p ≡ m .next st p)

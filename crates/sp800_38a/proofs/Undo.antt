@@ -10,7 +10,7 @@ use lib.Seq.{take-at, drop-at, take-all}
 use Rattle.octets.specs.Octets.{Bytes, Octets}
 use Rattle.octets.specs.Blocks.{_⊕_, BlockCipher, Lawful}
 use Rattle.octets.proofs.Blocks.{⊕-undo, ⊕-octets, length-nil}
-use Rattle.sp800_38a.specs.Pieces.{Machine, made, pieceCount}
+use Rattle.sp800_38a.specs.Pieces.{Machine, outputOf, pieceCount}
 use Rattle.sp800_38a.specs.Modes.{machine, other, moded}
 use Rattle.sp800_38a.specs.declared.Operation.{Operation}
 use Rattle.sp800_38a.specs.declared.Operation.the-variants.{EcbEncrypt, EcbDecrypt, CbcEncrypt, CbcDecrypt, CfbEncrypt, CfbDecrypt, OfbEncrypt, OfbDecrypt}
@@ -34,8 +34,8 @@ first-of z q r h k = ⊎-elim full short (eq-or-lt-of-le h)
         rw (e, append-nil q) (take-all z q (omega arith), drop-of-length-le q {i = z} (omega arith))
 
 pub undone : (z : ℕ) (m m' : Machine) (G P : List ℕ → Type 0) → Keeps m G P → Undoes m m' G P
-    → (n : ℕ) (st s : List ℕ) → G st → Each z P n s → made z m' st n (made z m st n s) ≡ s
-unfolding made
+    → (n : ℕ) (st s : List ℕ) → G st → Each z P n s → outputOf z m' st n (outputOf z m st n s) ≡ s
+unfolding outputOf
 undone z m m' G P k u zero st s g e = sym (length-nil s e)
 undone z m m' G P k u (suc n) st s g e =
     let p = take z s in
@@ -43,7 +43,7 @@ undone z m m' G P k u (suc n) st s g e =
     let g' = k .state st p g (e .0) in
     let q = m .out st p in
     let lq = k .size st p g (e .0) in
-    let t = made z m (m .next st p) n r in
+    let t = outputOf z m (m .next st p) n r in
     let lt = made-length z m G P k n (m .next st p) r g' (e .1) in
     let f = first-of z q t (omega (arith, lq, length-take z s)) (λ l. omega (arith, lq, lt, length-take z s, length-drop z s)) in
     let ih = undone z m m' G P k u n (m .next st p) r g' (e .1) in

@@ -3,7 +3,7 @@ use Prim.Native.Nat.{ℕ}
 use mathlib.Core.List.{List}
 use mathlib.Core.Bool.{Bool, true, false}
 use Rattle.octets.specs.Blocks.{_⊕_, BlockCipher}
-use Rattle.sp800_38a.specs.Pieces.{Machine, made, pieceCount}
+use Rattle.sp800_38a.specs.Pieces.{Machine, outputOf, pieceCount}
 use Rattle.sp800_38a.specs.declared.Operation.{Operation}
 use Rattle.sp800_38a.specs.declared.Operation.the-variants.{EcbEncrypt, EcbDecrypt, CbcEncrypt, CbcDecrypt, CfbEncrypt, CfbDecrypt, OfbEncrypt, OfbDecrypt}
 
@@ -53,4 +53,4 @@ ivLength z OfbDecrypt = z
 
 -- an operation over a list of bytes
 abbrev pub moded : ℕ → BlockCipher → Operation → List ℕ → List ℕ → List ℕ
-moded z c o iv s = made z (machine c o) iv (pieceCount z s) s
+moded z c o iv s = outputOf z (machine c o) iv (pieceCount z s) s

@@ -9,9 +9,9 @@ pub record Machine : Type 0 where
   pub next : List ℕ → List ℕ → List ℕ
 
 -- what n pieces give, from a state
-unfoldable pub made : ℕ → Machine → List ℕ → ℕ → List ℕ → List ℕ
-made z m st zero s = []
-made z m st (suc n) s = m .out st (take z s) ++ made z m (m .next st (take z s)) n (drop z s)
+unfoldable pub outputOf : ℕ → Machine → List ℕ → ℕ → List ℕ → List ℕ
+outputOf z m st zero s = []
+outputOf z m st (suc n) s = m .out st (take z s) ++ outputOf z m (m .next st (take z s)) n (drop z s)
 
 -- the state after them
 unfoldable pub after : ℕ → Machine → List ℕ → ℕ → List ℕ → List ℕ
@@ -20,7 +20,7 @@ after z m st (suc n) s = after z m (m .next st (take z s)) n (drop z s)
 
 -- both, where what is made goes over the front of another list
 abbrev pub ran : ℕ → Machine → List ℕ → ℕ → (s out : List ℕ) → List ℕ × List ℕ
-ran z m st n s out = (after z m st n s, made z m st n s ++ drop (n * z) out)
+ran z m st n s out = (after z m st n s, outputOf z m st n s ++ drop (n * z) out)
 
 -- piece i, from 0
 abbrev pub piece : ℕ → List ℕ → ℕ → List ℕ

@@ -12,7 +12,7 @@ use Rattle.octets.specs.Octets.{choose, padTo, Bytes, Octets}
 use Rattle.octets.specs.Blocks.{_⊕_, BlockCipher, Lawful}
 use Rattle.octets.proofs.Fill.{length-tabulate, tabulate-lt, length-padTo}
 use Rattle.octets.proofs.Blocks.{⊕-comm, ⊕-injective, ⊕-octets, drop-bytes, append-bytes, zeros-bytes, take-octets}
-use Rattle.sp800_38b.specs.Cmac.{shifted, r128, doubled, key1, key2, padded, last, earlier, chained, ended, cmac, SameOutside}
+use Rattle.sp800_38b.specs.Cmac.{shifted, r128, doubled, key1, key2, padded, last, beforeLast, chained, ended, cmac, SameOutside}
 use Rattle.sp800_38b.proofs.Chain.{drop-piece}
 
 -- ---- what is a block
@@ -93,8 +93,8 @@ module _ (c : BlockCipher) (enc-block : (x : List ℕ) → Octets 16 x → Octet
   pub cmac-octets : (m : List ℕ) → Bytes m → Octets 16 (cmac c m)
   unfolding cmac
   cmac-octets m b =
-      ended-octets (chained c (replicate 16 0) (earlier m) m) (drop (earlier m * 16) m)
-      (chained-octets (earlier m) (replicate 16 0) m zeros-octets b (omega arith)) (omega (arith, length-drop (earlier m * 16) m)) (drop-bytes (earlier m * 16) m b)
+      ended-octets (chained c (replicate 16 0) (beforeLast m) m) (drop (beforeLast m * 16) m)
+      (chained-octets (beforeLast m) (replicate 16 0) m zeros-octets b (omega arith)) (omega (arith, length-drop (beforeLast m * 16) m)) (drop-bytes (beforeLast m * 16) m b)
 
 -- ---- over a lawful cipher
 
@@ -182,6 +182,6 @@ module _ (c : BlockCipher) (l : Lawful 16 c) where
   pub one-piece : (i : ℕ) (m m' : List ℕ) → Bytes m → Bytes m' → length m ≡ length m' → SameOutside i m m' → cmac c m ≡ cmac c m' → m ≡ m'
   unfolding cmac checked Sized
   one-piece i m m' b b' el same e =
-      let n : earlier m' ≡ earlier m = omega arith in
-      piece-of-one (earlier m) i (replicate 16 0) m m' zeros-octets b b' el (omega arith, omega arith) same
+      let n : beforeLast m' ≡ beforeLast m = omega arith in
+      piece-of-one (beforeLast m) i (replicate 16 0) m m' zeros-octets b b' el (omega arith, omega arith) same
       (e ∙ ap (λ (k : ℕ). checked (replicate 16 0) k m') n)

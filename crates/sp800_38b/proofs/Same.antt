@@ -7,7 +7,7 @@ use lib.ListN.{length, take, drop, replicate, length-drop}
 use Rattle.octets.specs.Octets.{Bytes, Octets}
 use Rattle.octets.specs.Blocks.{_⊕_, BlockCipher}
 use Rattle.octets.proofs.Blocks.{⊕-octets, drop-bytes, take-octets}
-use Rattle.sp800_38b.specs.Cmac.{doubled, key1, key2, last, earlier, chained, ended, endedBy, cmac, cmacBy}
+use Rattle.sp800_38b.specs.Cmac.{doubled, key1, key2, last, beforeLast, chained, ended, endedBy, cmac, cmacBy}
 use Rattle.sp800_38b.proofs.OnePiece.{zeros-octets, last-octets, next-octets, chained-octets}
 
 -- c and d agree on blocks, and blocks go to blocks
@@ -38,7 +38,7 @@ module _ (c d : BlockCipher) (same : (x : List ℕ) → Octets 16 x → c .enc x
   pub cmac-same : (m : List ℕ) → Bytes m → cmac c m ≡ cmac d m
   unfolding cmac
   cmac-same m b =
-      let n = earlier m in
+      let n = beforeLast m in
       let h : n * 16 ≤ length m = omega arith in
       ap (λ (x : List ℕ). ended c x (drop (n * 16) m)) (chained-same n (replicate 16 0) m zeros-octets b h)
       ∙ ended-same (chained d (replicate 16 0) n m) (drop (n * 16) m) (chained-octets d enc-block n (replicate 16 0) m zeros-octets b h)

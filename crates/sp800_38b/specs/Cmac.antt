@@ -38,8 +38,8 @@ unfoldable pub last : BlockCipher → List ℕ → List ℕ
 last c b = lastBy (key1 c) (key2 c) b
 
 -- how many pieces come before the last (6.2, step 2): a full piece at the end is the last, and so is the piece of no bytes
-abbrev pub earlier : List ℕ → ℕ
-earlier m = (length m - 1) / 16
+abbrev pub beforeLast : List ℕ → ℕ
+beforeLast m = (length m - 1) / 16
 
 -- the value of the chain after n whole pieces of m, from the value st (6.2, step 6)
 unfoldable pub chained : BlockCipher → List ℕ → ℕ → List ℕ → List ℕ
@@ -55,11 +55,11 @@ ended c st b = c .enc (st ⊕ last c b)
 
 -- MAC generation (6.2), all 16 bytes: the chain starts at zeros (step 5)
 unfoldable pub cmac : BlockCipher → List ℕ → List ℕ
-cmac c m = ended c (chained c (replicate 16 0) (earlier m) m) (drop (earlier m * 16) m)
+cmac c m = ended c (chained c (replicate 16 0) (beforeLast m) m) (drop (beforeLast m * 16) m)
 
 -- the same with subkeys that were made before: CMAC where they are the cipher's own
 unfoldable pub cmacBy : BlockCipher → (k1 k2 m : List ℕ) → List ℕ
-cmacBy c k1 k2 m = endedBy c k1 k2 (chained c (replicate 16 0) (earlier m) m) (drop (earlier m * 16) m)
+cmacBy c k1 k2 m = endedBy c k1 k2 (chained c (replicate 16 0) (beforeLast m) m) (drop (beforeLast m * 16) m)
 
 -- two messages are the same outside piece i of 16 bytes, counted from the start
 abbrev pub SameOutside : ℕ → List ℕ → List ℕ → Type 0

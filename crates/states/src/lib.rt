@@ -1,15 +1,15 @@
 // A state of four columns, each a word: a block loaded and stored, and the steps of a round of FIPS 197 by lookups in a table of words.
 use lookups::Columns;
 use words::join;
-use words::middles;
 use words::mix_column;
-use words::spun;
+use words::sub_column;
+use words::sub_mix_column;
 use words::word_bytes;
 ghost use mathlib.Core.Path.{_≡_};
 ghost use Rattle.octets.specs.Octets.{entry};
 ghost use Rattle.lookups.specs.Columns.{blockOf, columnsOf};
-ghost use Rattle.lookups.specs.Tables.{lookedLast, mixedEach};
-ghost use Rattle.lookups.specs.Tables as spec;
+ghost use Rattle.lookups.specs.Lookups.{subShift, mixedEach};
+ghost use Rattle.lookups.specs.Lookups as spec;
 
 pub fn load(block: [u8; 16]) -> Columns
     ensures { λ r. ⌜ r ≡ columnsOf block ⌝ }
@@ -49,27 +49,28 @@ pub fn store(s: Columns) -> [u8; 16]
     ]
 }
 
-// Each column takes its four bytes from the columns that the shift brings there, substituted and mixed on the way.
-pub fn looked(table: &[u32; 256], s: Columns) -> Columns
-    ensures { λ r. ⌜ r ≡ spec.looked (entry (now (table .entry))) s ⌝ }
+// SUBBYTES, SHIFTROWS and MIXCOLUMNS at once (sub_bytes, shift_rows, mix_columns): each column takes its four bytes from the columns
+// that the shift brings there, substituted and mixed on the way.
+pub fn sub_shift_mix(table: &[u32; 256], s: Columns) -> Columns
+    ensures { λ r. ⌜ r ≡ spec.subShiftMix (entry (now (table .entry))) s ⌝ }
 {
     Columns(
-        spun(table, s.0, s.1, s.2, s.3),
-        spun(table, s.1, s.2, s.3, s.0),
-        spun(table, s.2, s.3, s.0, s.1),
-        spun(table, s.3, s.0, s.1, s.2),
+        sub_mix_column(table, s.0, s.1, s.2, s.3),
+        sub_mix_column(table, s.1, s.2, s.3, s.0),
+        sub_mix_column(table, s.2, s.3, s.0, s.1),
+        sub_mix_column(table, s.3, s.0, s.1, s.2),
     )
 }
 
-// The same without the mixing.
-pub fn looked_last(table: &[u32; 256], s: Columns) -> Columns
-    ensures { λ r. ⌜ r ≡ lookedLast (entry (now (table .entry))) s ⌝ }
+// SUBBYTES and SHIFTROWS alone.
+pub fn sub_shift(table: &[u32; 256], s: Columns) -> Columns
+    ensures { λ r. ⌜ r ≡ subShift (entry (now (table .entry))) s ⌝ }
 {
     Columns(
-        middles(table, s.0, s.1, s.2, s.3),
-        middles(table, s.1, s.2, s.3, s.0),
-        middles(table, s.2, s.3, s.0, s.1),
-        middles(table, s.3, s.0, s.1, s.2),
+        sub_column(table, s.0, s.1, s.2, s.3),
+        sub_column(table, s.1, s.2, s.3, s.0),
+        sub_column(table, s.2, s.3, s.0, s.1),
+        sub_column(table, s.3, s.0, s.1, s.2),
     )
 }
 

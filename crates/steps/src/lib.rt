@@ -5,7 +5,7 @@ use rounds::decrypt_block;
 use rounds::encrypt_block;
 use sp800_38a::Operation;
 ghost use mathlib.Core.Path.{_≡_};
-ghost use Rattle.lookups.specs.Tables.{oneTable};
+ghost use Rattle.lookups.specs.Lookups.{oneTable};
 ghost use Rattle.sp800_38a.specs.Modes.{machine};
 ghost use Rattle.steps.specs.Step.{stepOf};
 

@@ -10,7 +10,7 @@ ghost use Prim.Native.Nat.{_-_};
 ghost use lib.ListN.{getD, take};
 ghost use lib.Dec.{ltb};
 ghost use Rattle.octets.specs.Octets.{choose, padTo};
-ghost use Rattle.lookups.specs.Tables.{oneTable};
+ghost use Rattle.lookups.specs.Lookups.{oneTable};
 ghost use Rattle.sp800_38b.specs.Cmac as spec;
 
 // The bytes held, then those of the part, as many as 16 bytes have room for, then zeros.

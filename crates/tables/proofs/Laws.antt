@@ -9,11 +9,11 @@ use Rattle.octets.proofs.Tests.{at-each}
 use Rattle.octets.proofs.Fill.{is-tabulate}
 use Rattle.field.specs.Field.{xTimes, productWithin, _•_}
 use Rattle.sbox.specs.Sbox.{sBox, invSBox}
-use Rattle.sbox.proofs.Tables.{sBoxTable, invSBoxTable}
+use Rattle.sbox.proofs.Lists.{sBoxTable, invSBoxTable}
 use Rattle.sbox.proofs.Laws.{sBox-rule, invSBox-rule}
 use Rattle.words.specs.Columns.{row, column, mixColumn, invMixColumn, mixedEntry, invMixedEntry}
 use Rattle.tables.specs.Tables.{forwardTable, inverseTable}
-use Rattle.tables.proofs.Tables.{forwardList, inverseList}
+use Rattle.tables.proofs.Lists.{forwardList, inverseList}
 
 -- from the S-box's own table, which is quicker to look up in than to compute
 is-mixed : ℕ → ℕ → Bool

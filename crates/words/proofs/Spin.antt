@@ -8,7 +8,7 @@ use Rattle.octets.proofs.Xor.{xor-medial, xor-zero, zero-xor}
 use Rattle.octets.proofs.Words.{byte-lt, byte-xor, byte0-word, byte1-word, byte2-word, byte3-word, xor-word}
 use Rattle.field.specs.Field.{xTimes, _•_}
 use Rattle.field.proofs.Laws.{product-xor, product-one, product-two, product-three}
-use Rattle.words.specs.Columns.{rotWord, rotTwo, rotThree, diagonal, row, mixRow, invMixRow, column, mixColumn, invMixColumn, mixedEntry, invMixedEntry, spun, middle}
+use Rattle.words.specs.Columns.{rotWord, rotTwo, rotThree, diagonal, row, mixRow, invMixRow, column, mixColumn, invMixColumn, mixedEntry, invMixedEntry, subMixColumn, subByte}
 use Rattle.words.proofs.Rotate.{row-lt}
 use Rattle.words.proofs.Mix.{column-word}
 
@@ -89,8 +89,8 @@ module _ (p q u v : ℕ) {a b c d : ℕ} (ha : a < 256) (hb : b < 256) (hc : c <
 
 module _ (sub : ℕ → ℕ) (lt : (k : ℕ) → k < 256 → sub k < 256) (t : ℕ → ℕ) (a b c d : ℕ) where
   looked : (p q u v : ℕ) → ((k : ℕ) → k < 256 → t k ≡ column (row p q u v) (sub k) 0 0 0)
-      → spun t a b c d ≡ column (row p q u v) (sub (byte 0 a)) (sub (byte 1 b)) (sub (byte 2 c)) (sub (byte 3 d))
-  unfolding spun
+      → subMixColumn t a b c d ≡ column (row p q u v) (sub (byte 0 a)) (sub (byte 1 b)) (sub (byte 2 c)) (sub (byte 3 d))
+  unfolding subMixColumn
   looked p q u v e =
       rw (e (byte 0 a) (byte-lt 0 a), e (byte 1 b) (byte-lt 1 b), e (byte 2 c) (byte-lt 2 c), e (byte 3 d) (byte-lt 3 d))
       (four-turned p q u v (lt (byte 0 a) (byte-lt 0 a)) (lt (byte 1 b) (byte-lt 1 b)) (lt (byte 2 c) (byte-lt 2 c)) (lt (byte 3 d) (byte-lt 3 d)))
@@ -106,13 +106,13 @@ module _ (sub : ℕ → ℕ) (lt : (k : ℕ) → k < 256 → sub k < 256) (t : �
   alone first k h = column-word (sub k) 0 0 0 (lt k h) (omega arith) (omega arith) (omega arith) first _ refl
 
   -- over the table of the mixing, and of the mixing back
-  pub spun-mixes : ((k : ℕ) → k < 256 → t k ≡ mixedEntry sub k) → spun t a b c d ≡ mixColumn (diagonal sub a b c d)
+  pub sub-mix-column-mixes : ((k : ℕ) → k < 256 → t k ≡ mixedEntry sub k) → subMixColumn t a b c d ≡ mixColumn (diagonal sub a b c d)
   unfolding mixColumn
-  spun-mixes e = looked 2 3 1 1 (λ k h. e k h ∙ alone mixRow k h) ∙ sym (whole mixRow)
+  sub-mix-column-mixes e = looked 2 3 1 1 (λ k h. e k h ∙ alone mixRow k h) ∙ sym (whole mixRow)
 
-  pub spun-mixes-back : ((k : ℕ) → k < 256 → t k ≡ invMixedEntry sub k) → spun t a b c d ≡ invMixColumn (diagonal sub a b c d)
+  pub sub-mix-column-mixes-back : ((k : ℕ) → k < 256 → t k ≡ invMixedEntry sub k) → subMixColumn t a b c d ≡ invMixColumn (diagonal sub a b c d)
   unfolding invMixColumn
-  spun-mixes-back e = looked 14 11 13 9 (λ k h. e k h ∙ alone invMixRow k h) ∙ sym (whole invMixRow)
+  sub-mix-column-mixes-back e = looked 14 11 13 9 (λ k h. e k h ∙ alone invMixRow k h) ∙ sym (whole invMixRow)
 
 doubled-none : xTimes 0 ≡ 0
 unfolding xTimes xor
@@ -125,7 +125,7 @@ third-row s =
     rw (product-two 0, product-three 0, product-one s, product-one 0, z, xor-zero 0, xor-zero s, zero-xor s)
 
 -- what the table of the mixing has substituted
-pub middle-entry : (sub : ℕ → ℕ) → ((k : ℕ) → k < 256 → sub k < 256) → (k : ℕ) → k < 256 → middle (mixedEntry sub) k ≡ sub k
+pub middle-entry : (sub : ℕ → ℕ) → ((k : ℕ) → k < 256 → sub k < 256) → (k : ℕ) → k < 256 → subByte (mixedEntry sub) k ≡ sub k
 unfolding mixColumn column
 middle-entry sub lt k h =
     let s = lt k h in

@@ -68,9 +68,9 @@ abbrev pub invMixedEntry : (ℕ → ℕ) → ℕ → ℕ
 invMixedEntry sub x = invMixColumn (word (sub x) 0 0 0)
 
 -- byte 0 of a, byte 1 of b, byte 2 of c and byte 3 of d looked up in the table t, each entry turned to its byte's place, added up
-unfoldable pub spun : (ℕ → ℕ) → ℕ → ℕ → ℕ → ℕ → ℕ
-spun t a b c d = xor (xor (t (byte 0 a)) (rotThree (t (byte 1 b)))) (xor (rotTwo (t (byte 2 c))) (rotWord (t (byte 3 d))))
+unfoldable pub subMixColumn : (ℕ → ℕ) → ℕ → ℕ → ℕ → ℕ → ℕ
+subMixColumn t a b c d = xor (xor (t (byte 0 a)) (rotThree (t (byte 1 b)))) (xor (rotTwo (t (byte 2 c))) (rotWord (t (byte 3 d))))
 
 -- what `mixedEntry` has substituted: the matrix of MIXCOLUMNS has 1 in the third row of its first column
-abbrev pub middle : (ℕ → ℕ) → ℕ → ℕ
-middle t x = byte 2 (t x)
+abbrev pub subByte : (ℕ → ℕ) → ℕ → ℕ
+subByte t x = byte 2 (t x)

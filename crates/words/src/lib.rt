@@ -4,7 +4,7 @@ ghost use Prim.Native.Nat.{_<_};
 ghost use mathlib.Core.List.{[], _∷_};
 ghost use Rattle.octets.specs.Words.{word, bytesOf};
 ghost use Rattle.octets.specs.Octets.{entry};
-ghost use Rattle.words.specs.Columns.{rotWord, rotTwo, rotThree, diagonal, IsDiagonal, doubled, mixColumn, invMixColumn, middle};
+ghost use Rattle.words.specs.Columns.{rotWord, rotTwo, rotThree, diagonal, IsDiagonal, doubled, mixColumn, invMixColumn, subByte};
 ghost use Rattle.words.specs.Columns as spec;
 
 pub fn join(a: u8, b: u8, c: u8, d: u8) -> u32
@@ -31,15 +31,15 @@ pub fn rot_word(x: u32) -> u32
     x / 16777216 + x % 16777216 * 256
 }
 
-// Byte 0 of a, byte 1 of b, byte 2 of c and byte 3 of d, each through the table.
-pub fn substitute(table: &[u8; 256], a: u32, b: u32, c: u32, d: u32) -> u32
-    ensures { λ r. ⌜ IsDiagonal (entry (now (table .entry))) a b c d r ⌝ }
+// SUBWORD: each byte through the table.
+pub fn sub_word(table: &[u8; 256], x: u32) -> u32
+    ensures { λ r. ⌜ IsDiagonal (entry (now (table .entry))) x x x x r ⌝ }
 {
     packed(
-        looked_up(table, a / 16777216 % 256),
-        looked_up(table, b / 65536 % 256),
-        looked_up(table, c / 256 % 256),
-        looked_up(table, d % 256),
+        looked_up(table, x / 16777216 % 256),
+        looked_up(table, x / 65536 % 256),
+        looked_up(table, x / 256 % 256),
+        looked_up(table, x % 256),
     )
 }
 
@@ -59,8 +59,8 @@ pub fn inv_mix_column(x: u32) -> u32
 }
 
 // Byte 0 of a, byte 1 of b, byte 2 of c and byte 3 of d, each looked up and turned to its place: over a mixed table, a column of a round.
-pub fn spun(table: &[u32; 256], a: u32, b: u32, c: u32, d: u32) -> u32
-    ensures { λ r. ⌜ r ≡ spec.spun (entry (now (table .entry))) a b c d ⌝ }
+pub fn sub_mix_column(table: &[u32; 256], a: u32, b: u32, c: u32, d: u32) -> u32
+    ensures { λ r. ⌜ r ≡ spec.subMixColumn (entry (now (table .entry))) a b c d ⌝ }
 {
     let p = word_at(table, a / 16777216 % 256);
     let q = rot_three(word_at(table, b / 65536 % 256));
@@ -70,8 +70,8 @@ pub fn spun(table: &[u32; 256], a: u32, b: u32, c: u32, d: u32) -> u32
 }
 
 // The same four bytes only substituted, as the table of the mixing has them.
-pub fn middles(table: &[u32; 256], a: u32, b: u32, c: u32, d: u32) -> u32
-    ensures { λ r. ⌜ r ≡ diagonal (middle (entry (now (table .entry)))) a b c d ⌝ }
+pub fn sub_column(table: &[u32; 256], a: u32, b: u32, c: u32, d: u32) -> u32
+    ensures { λ r. ⌜ r ≡ diagonal (subByte (entry (now (table .entry)))) a b c d ⌝ }
 {
     packed(
         middle_at(table, a / 16777216 % 256),
@@ -90,7 +90,7 @@ fn word_at(table: &[u32; 256], x: u32) -> u32
 
 fn middle_at(table: &[u32; 256], x: u32) -> u32
     requires { ⌜ x < 256 ⌝ }
-    ensures { λ r. ⌜ (r ≡ middle (entry (now (table .entry))) x) × (r < 256) ⌝ }
+    ensures { λ r. ⌜ (r ≡ subByte (entry (now (table .entry))) x) × (r < 256) ⌝ }
 {
     table[x as usize] / 256 % 256
 }

@@ -15,7 +15,7 @@ use Rattle.sbox.specs.Sbox.{sBox}
 use Rattle.schedule.specs.Schedule.{scheduleOf, keyNumber}
 use Rattle.schedule.specs.declared.Expanded.{Expanded}
 use Rattle.fips197.specs.Cipher.{aesOf}
-use Rattle.lookups.specs.Tables.{inverseWords, oneTable}
+use Rattle.lookups.specs.Lookups.{inverseWords, oneTable}
 use Rattle.tables.specs.Tables.{forwardTable, inverseTable}
 use Rattle.lookups.proofs.Lawful.{lent-agrees}
 use Rattle.fips197.proofs.Aes.{key-lawful}

@@ -17,7 +17,7 @@ ghost use lib.ListN.{length};
 ghost use Rattle.octets.specs.Octets.{padTo, over};
 ghost use Rattle.schedule.specs.Schedule.{keyNumber};
 ghost use Rattle.wrap.specs.Wrap.{wrapped, unwrapped};
-ghost use Rattle.lookups.specs.Tables.{oneTable};
+ghost use Rattle.lookups.specs.Lookups.{oneTable};
 ghost use Rattle.wrap.specs.Lent.{openedOver};
 ghost use Rattle.wrap.specs.declared.WrapAnswer.the-variants.{WrapDone};
 ghost use Rattle.wrap.specs.Calls as spec;

@@ -8,7 +8,7 @@ ghost use mathlib.Core.Path.{_≡_};
 ghost use Prim.Native.Nat.{_+_, _*_, _≤_, _<_};
 ghost use lib.ListN.{length};
 ghost use Rattle.wrap.specs.Wrap as spec;
-ghost use Rattle.lookups.specs.Tables.{oneTable};
+ghost use Rattle.lookups.specs.Lookups.{oneTable};
 
 // B = AES(K, A | R[i]), then A = MSB(64, B) ^ t and R[i] = LSB(64, B).
 fn step(table: &[u32; 256], words: &[u32; 60], rounds: usize, t: usize, i: usize, w: &mut [u8])

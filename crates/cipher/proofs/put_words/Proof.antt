@@ -1,6 +1,6 @@
 use Rattle.octets.specs.Octets.{choose}
 use Rattle.schedule.specs.Schedule.{roundCount}
-use Rattle.lookups.specs.Tables.{inverseWord}
+use Rattle.lookups.specs.Lookups.{inverseWord}
 use Rattle.octets.proofs.Fill.{Filled, filled-none, filled-more, filled-all}
 use Prim.Native.Nat.{ℕ, _≤_, _-_}
 use mathlib.Core.Path.{sym, _∙_}

@@ -1,6 +1,6 @@
 use mathlib.Core.Path.{_∙_}
 use denote.Ref.{now}
-use Rattle.lookups.specs.Tables.{oneTable}
+use Rattle.lookups.specs.Lookups.{oneTable}
 use Rattle.running.proofs.Laws.{whole-fed}
 use borrow.Author.Needs.{needs}
 use Rattle.cmac.proofs.check_with.Statement.{statement}

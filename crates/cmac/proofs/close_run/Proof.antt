@@ -1,7 +1,7 @@
 use mathlib.Core.Path.{_∙_}
 use denote.Ref.{now}
 use Rattle.sp800_38b.specs.Cmac.{key2}
-use Rattle.lookups.specs.Tables.{oneTable}
+use Rattle.lookups.specs.Lookups.{oneTable}
 use Rattle.running.proofs.Laws.{closed-by}
 use borrow.Author.Needs.{needs}
 use Rattle.cmac.proofs.close_run.Statement.{statement}

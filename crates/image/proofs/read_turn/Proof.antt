@@ -2,7 +2,7 @@ use Rattle.image.proofs.Calls.{turn-asked, turn-lent, turn-room, turn-r
 use Rattle.format.proofs.Judging.{flip}
 use Rattle.image.specs.declared.Turn.{Turn}
 use Rattle.image.specs.declared.Reader.{Reader}
-use Rattle.image.specs.declared.turns.Ran.{Ran}
+use Rattle.image.specs.declared.turns.BlocksRead.{BlocksRead}
 use borrow.Author.Tests.{eq-eqb, ne-eqb, lt-ltb, le-ltb}
 use lib.ListN.{length}
 use native.Mathlib.Nat.{min-le-left, min-le-right}
@@ -14,8 +14,8 @@ use Rattle.image.proofs.read_turn.Statement.{statement}
 use Rattle.image.proofs.read_turn.Tie as tie
 
 -- the answer to a turn whose blocks did this: the reader keeps its schedules
-abbrev turnAfter : Reader → Ran → Turn
-turnAfter r x = record {
+abbrev answerAfter : Reader → BlocksRead → Turn
+answerAfter r x = record {
   reader = record { enc = r .enc; chk = r .chk; progress = x .progress };
   accepted = x .accepted;
   bytes = x .bytes;
@@ -44,8 +44,8 @@ returns-2 c =
     let a = m .before .before .before .args in
     ap (λ (x : Turn). (x, a .output .now)) (c .stopped2 .ensures) ∙ turn-lent (a .reader) (a .blocks .now) (a .asked) (a .output .now) (sym (m .may-ask .ensures) ∙ flip _ (n .if1 .left)) (ne-eqb _ _ (c .before .if2 .taken))
 
-least-requires : tie.Need-least-requires
-least-requires c κs = search needs
+smaller-requires : tie.Need-smaller-requires
+smaller-requires c κs = search needs
 
 mul-if3 : tie.Need-mul-if3
 mul-if3 c =
@@ -54,7 +54,7 @@ mul-if3 c =
     let a = m .before .before .before .args in
     let x = a .asked in
     let h = asked-most (a .reader) (a .blocks .now) x (a .output .now) (sym (m .may-ask .ensures) ∙ flip _ (n .if1 .left)) in
-    omega (arith, c .least .ensures, min-le-left x (length (a .blocks .now) / 512), h)
+    omega (arith, c .smaller .ensures, min-le-left x (length (a .blocks .now) / 512), h)
 
 stopped-requires-3 : tie.Need-stopped-requires-3
 stopped-requires-3 c κs = search needs
@@ -66,10 +66,10 @@ returns-3 c =
     let m = n .before in
     let a = m .before .before .before .args in
     ap (λ (x : Turn). (x, a .output .now)) (c .stopped3 .ensures)
-    ∙ turn-room (a .reader) (a .blocks .now) (a .asked) (a .output .now) (sym (m .may-ask .ensures) ∙ flip _ (n .if1 .left)) (eq-eqb _ _ (p .if2 .left)) _ (c .before .before .least .ensures) (lt-ltb _ _ (c .before .if3 .taken))
+    ∙ turn-room (a .reader) (a .blocks .now) (a .asked) (a .output .now) (sym (m .may-ask .ensures) ∙ flip _ (n .if1 .left)) (eq-eqb _ _ (p .if2 .left)) _ (c .before .before .smaller .ensures) (lt-ltb _ _ (c .before .if3 .taken))
 
-turned-requires : tie.Need-turned-requires
-turned-requires c κs =
+read-under-requires : tie.Need-read-under-requires
+read-under-requires c κs =
     let p = c .before .before .before .before .before .before .before .before .before in
     let n = p .before in
     let m = n .before in
@@ -77,7 +77,7 @@ turned-requires c κs =
     let x = a .asked in
     let y = length (a .blocks .now) / 512 in
     let h = asked-most (a .reader) (a .blocks .now) x (a .output .now) (sym (m .may-ask .ensures) ∙ flip _ (n .if1 .left)) in
-    omega (arith, c .before .before .before .before .before .before .before .if3 .left, c .before .before .before .before .before .before .before .before .least .ensures, min-le-left x y, min-le-right x y, h)
+    omega (arith, c .before .before .before .before .before .before .before .if3 .left, c .before .before .before .before .before .before .before .before .smaller .ensures, min-le-left x y, min-le-right x y, h)
 
 same-length : tie.Need-same-length
 same-length c = search needs
@@ -89,8 +89,8 @@ returns-4 c =
     let n = p .before in
     let m = n .before in
     let a = m .before .before .before .args in
-    turn-read (a .reader) (a .blocks .now) (a .asked) (a .output .now) (sym (m .may-ask .ensures) ∙ flip _ (n .if1 .left)) (eq-eqb _ _ (p .if2 .left)) _ (q .before .least .ensures) (le-ltb _ _ (q .if3 .left))
-    _ _ (ap (turnAfter (a .reader)) (c .before .before .before .turned .ensures .0)) (c .before .before .before .turned .ensures .1)
+    turn-read (a .reader) (a .blocks .now) (a .asked) (a .output .now) (sym (m .may-ask .ensures) ∙ flip _ (n .if1 .left)) (eq-eqb _ _ (p .if2 .left)) _ (q .before .smaller .ensures) (le-ltb _ _ (q .if3 .left))
+    _ _ (ap (answerAfter (a .reader)) (c .before .before .before .read-under .ensures .0)) (c .before .before .before .read-under .ensures .1)
 
 pub read-turn-spec : {M : Type 1} → statement M
 read-turn-spec =
@@ -101,10 +101,10 @@ read-turn-spec =
     returns
     stopped-requires-2
     returns-2
-    least-requires
+    smaller-requires
     mul-if3
     stopped-requires-3
     returns-3
-    turned-requires
+    read-under-requires
     same-length
     returns-4)

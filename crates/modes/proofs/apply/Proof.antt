@@ -27,8 +27,8 @@ returns c =
 load-requires : tie.Need-load-requires
 load-requires c κs = search needs
 
-under-requires : tie.Need-under-requires
-under-requires c κs = search needs
+under-schedule-requires : tie.Need-under-schedule-requires
+under-schedule-requires c κs = search needs
 
 same-length : tie.Need-same-length
 same-length c = search needs
@@ -43,7 +43,7 @@ returns-2 c =
     let pr = k .judge .ensures in (
       answered (a .operation) (now (a .key)) (now (a .iv)) (now (a .input)) (now (a .output)) _ _ pe pr,
       written (a .operation) (now (a .key)) (now (a .iv)) (now (a .input)) (now (a .output)) _ _ pe pr _ _ _
-          (c .before .before .before .before .load .ensures) bi bs (c .before .before .before .before .before .before .enum-told .given .1) (c .before .before .under .ensures),
+          (c .before .before .before .before .load .ensures) bi bs (c .before .before .before .before .before .before .enum-told .given .1) (c .before .before .under-schedule .ensures),
     )
 
 pub apply-spec : {M : Type 1} → statement M
@@ -55,6 +55,6 @@ apply-spec =
     enum-told
     returns
     load-requires
-    under-requires
+    under-schedule-requires
     same-length
     returns-2)

@@ -1,6 +1,6 @@
 use mathlib.Core.Path.{sym, _∙_}
 use borrow.Author.Tests.{eq-eqb, ne-eqb, lt-ltb, le-ltb}
-use Rattle.modes.specs.Calls.{ruled}
+use Rattle.modes.specs.Calls.{judged}
 use borrow.Author.Needs.{needs}
 use Rattle.modes.proofs.judge.Statement.{statement}
 use Rattle.modes.proofs.judge.Tie as tie
@@ -12,26 +12,26 @@ enum-told-2 : tie.Need-enum-told-2
 enum-told-2 c = search needs
 
 returns : tie.Need-returns
-unfolding ruled
+unfolding judged
 returns c = rw (c .enum-told2 .given .1)
 
 wanted-iv-requires : tie.Need-wanted-iv-requires
 wanted-iv-requires c κs = search needs
 
 returns-2 : tie.Need-returns-2
-unfolding ruled
+unfolding judged
 returns-2 c = rw (c .before .before .enum-told .given .1) (simp (ne-eqb _ _ (λ e. c .if1 .taken (e ∙ sym (c .before .wanted-iv .ensures)))))
 
 returns-3 : tie.Need-returns-3
-unfolding ruled
+unfolding judged
 returns-3 c = rw (c .before .before .before .enum-told .given .1) (simp (eq-eqb _ _ (c .before .if1 .left ∙ c .before .before .wanted-iv .ensures), ne-eqb _ _ (c .if2 .taken)))
 
 returns-4 : tie.Need-returns-4
-unfolding ruled
+unfolding judged
 returns-4 c = rw (c .before .before .before .before .enum-told .given .1) (simp (eq-eqb _ _ (c .before .before .if1 .left ∙ c .before .before .before .wanted-iv .ensures), eq-eqb _ _ (c .before .if2 .left), lt-ltb _ _ (c .if3 .taken)))
 
 returns-5 : tie.Need-returns-5
-unfolding ruled
+unfolding judged
 returns-5 c = rw (c .before .before .before .before .enum-told .given .1) (simp (eq-eqb _ _ (c .before .before .if1 .left ∙ c .before .before .before .wanted-iv .ensures), eq-eqb _ _ (c .before .if2 .left), le-ltb _ _ (c .if3 .left)))
 
 pub judge-spec : {M : Type 1} → statement M

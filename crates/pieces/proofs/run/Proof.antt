@@ -1,7 +1,7 @@
 use mathlib.Core.Path.{sym, _∙_}
 use denote.Ref.{now}
 use lib.ListN.{length}
-use Rattle.pieces.specs.Runs.{through}
+use Rattle.pieces.specs.Runs.{runOver}
 use Rattle.pieces.proofs.Runs.{common-le}
 use native.Mathlib.Omega.{arith}
 use borrow.Author.Needs.{needs}
@@ -26,7 +26,7 @@ same-length : tie.Need-same-length
 same-length c = search needs
 
 returns : tie.Need-returns
-unfolding through
+unfolding runOver
 returns c = rw (← c .before .before .before .before .before .before .in-common .ensures) (c .before .before .in-pairs .ensures)
 
 in-order-requires : tie.Need-in-order-requires
@@ -41,7 +41,7 @@ same-length-2 : tie.Need-same-length-2
 same-length-2 c = search needs
 
 returns-2 : tie.Need-returns-2
-unfolding through
+unfolding runOver
 returns-2 c = rw (← c .before .before .before .before .before .before .in-common .ensures) (c .before .before .in-order .ensures)
 
 pub run-spec : {M : Type 1} → statement M

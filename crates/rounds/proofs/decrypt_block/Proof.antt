@@ -1,5 +1,5 @@
 use Rattle.fips197.proofs.Rounds.{round-count}
-use Rattle.lookups.specs.Tables.{tableBack, tableDecrypt}
+use Rattle.lookups.specs.Lookups.{tableBack, tableDecrypt}
 use Rattle.lookups.specs.Columns.{blockOf}
 use Rattle.octets.specs.Octets.{entry}
 use denote.Ref.{now}
@@ -14,8 +14,8 @@ is-round-count-requires c κs = search needs
 load-requires : tie.Need-load-requires
 load-requires c κs = search needs
 
-inv-cipher-requires : tie.Need-inv-cipher-requires
-inv-cipher-requires c κs = round-count (c .before .before .before .args .rounds) (sym (c .before .before .is-round-count .ensures) ∙ c .before .if1 .taken)
+eq-inv-cipher-requires : tie.Need-eq-inv-cipher-requires
+eq-inv-cipher-requires c κs = round-count (c .before .before .before .args .rounds) (sym (c .before .before .is-round-count .ensures) ∙ c .before .if1 .taken)
 
 store-requires : tie.Need-store-requires
 store-requires c κs = search needs
@@ -25,7 +25,7 @@ unfolding tableDecrypt
 returns c =
     let a = c .before .before .before .before .before .args in
     simp (sym (c .before .before .before .before .is-round-count .ensures) ∙ c .before .before .before .if1 .taken)
-    (c .store .ensures ∙ ap blockOf (c .before .inv-cipher .ensures ∙ ap (tableBack (entry (now (a .table))) (now (a .words)) (a .rounds)) (c .before .before .load .ensures)))
+    (c .store .ensures ∙ ap blockOf (c .before .eq-inv-cipher .ensures ∙ ap (tableBack (entry (now (a .table))) (now (a .words)) (a .rounds)) (c .before .before .load .ensures)))
 
 returns-2 : tie.Need-returns-2
 unfolding tableDecrypt
@@ -37,7 +37,7 @@ decrypt-block-spec =
     (tie.spec
     is-round-count-requires
     load-requires
-    inv-cipher-requires
+    eq-inv-cipher-requires
     store-requires
     returns
     returns-2)

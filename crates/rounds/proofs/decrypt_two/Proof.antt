@@ -3,7 +3,7 @@ use mathlib.Core.Path.{sym, ap, _∙_}
 use denote.Ref.{now}
 use Rattle.octets.specs.Octets.{entry}
 use Rattle.lookups.specs.Columns.{blockOf}
-use Rattle.lookups.specs.Tables.{tableBack, tableDecrypt}
+use Rattle.lookups.specs.Lookups.{tableBack, tableDecrypt}
 use Rattle.rounds.specs.declared.loops.TwoStates.{TwoStates}
 use Rattle.rounds.proofs.Pairs.{are-blocks}
 use Rattle.fips197.proofs.Rounds.{round-count}
@@ -20,8 +20,8 @@ load-requires c κs = search needs
 load-requires-2 : tie.Need-load-requires-2
 load-requires-2 c κs = search needs
 
-inv-cipher-two-requires : tie.Need-inv-cipher-two-requires
-inv-cipher-two-requires c κs = round-count (c .before .before .before .before .args .rounds) (sym (c .before .before .before .is-round-count .ensures) ∙ c .before .before .if1 .taken)
+eq-inv-cipher-two-requires : tie.Need-eq-inv-cipher-two-requires
+eq-inv-cipher-two-requires c κs = round-count (c .before .before .before .before .args .rounds) (sym (c .before .before .before .is-round-count .ensures) ∙ c .before .before .if1 .taken)
 
 store-requires : tie.Need-store-requires
 store-requires c κs = search needs
@@ -37,8 +37,8 @@ returns c =
     let f = tableBack (entry (now (a .table))) (now (a .words)) (a .rounds) in
     let t = sym (k .before .before .before .before .is-round-count .ensures) ∙ k .before .before .before .if1 .taken in
     are-blocks (tableDecrypt (entry (now (a .table))) (now (a .words)) (a .rounds))
-    (simp t (c .before .store .ensures ∙ ap (λ (x : TwoStates). blockOf (x .first)) (k .inv-cipher-two .ensures) ∙ ap (λ (x : Columns). blockOf (f x)) (k .before .before .load .ensures)))
-    (simp t (c .store2 .ensures ∙ ap (λ (x : TwoStates). blockOf (x .second)) (k .inv-cipher-two .ensures) ∙ ap (λ (x : Columns). blockOf (f x)) (k .before .load2 .ensures)))
+    (simp t (c .before .store .ensures ∙ ap (λ (x : TwoStates). blockOf (x .first)) (k .eq-inv-cipher-two .ensures) ∙ ap (λ (x : Columns). blockOf (f x)) (k .before .before .load .ensures)))
+    (simp t (c .store2 .ensures ∙ ap (λ (x : TwoStates). blockOf (x .second)) (k .eq-inv-cipher-two .ensures) ∙ ap (λ (x : Columns). blockOf (f x)) (k .before .load2 .ensures)))
 
 returns-2 : tie.Need-returns-2
 unfolding tableDecrypt
@@ -51,7 +51,7 @@ decrypt-two-spec =
     is-round-count-requires
     load-requires
     load-requires-2
-    inv-cipher-two-requires
+    eq-inv-cipher-two-requires
     store-requires
     store-requires-2
     returns

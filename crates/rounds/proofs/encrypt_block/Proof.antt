@@ -1,5 +1,5 @@
 use Rattle.fips197.proofs.Rounds.{round-count}
-use Rattle.lookups.specs.Tables.{tableForth, tableEncrypt}
+use Rattle.lookups.specs.Lookups.{tableForth, tableEncrypt}
 use Rattle.lookups.specs.Columns.{blockOf}
 use Rattle.octets.specs.Octets.{entry}
 use denote.Ref.{now}

@@ -3,7 +3,7 @@ use mathlib.Core.Path.{sym, ap, _∙_}
 use denote.Ref.{now}
 use Rattle.octets.specs.Octets.{entry}
 use Rattle.lookups.specs.Columns.{blockOf}
-use Rattle.lookups.specs.Tables.{tableForth, tableEncrypt}
+use Rattle.lookups.specs.Lookups.{tableForth, tableEncrypt}
 use Rattle.rounds.specs.declared.loops.TwoStates.{TwoStates}
 use Rattle.rounds.proofs.Pairs.{are-blocks}
 use Rattle.fips197.proofs.Rounds.{round-count}

@@ -1,4 +1,4 @@
-use Rattle.sbox.proofs.Tables.{invSBoxTable}
+use Rattle.sbox.proofs.Lists.{invSBoxTable}
 use Rattle.sbox.proofs.Laws.{invSBox-table}
 use Rattle.sbox.proofs.inv_table.Statement.{statement}
 use Rattle.sbox.proofs.inv_table.Tie as tie

@@ -1,4 +1,4 @@
-use Rattle.sbox.proofs.Tables.{sBoxTable}
+use Rattle.sbox.proofs.Lists.{sBoxTable}
 use Rattle.sbox.proofs.Laws.{sBox-table}
 use Rattle.sbox.proofs.table.Statement.{statement}
 use Rattle.sbox.proofs.table.Tie as tie

@@ -18,17 +18,17 @@ mul-result c = search needs
 element-copy-out-result : tie.Need-element-copy-out-result
 element-copy-out-result c = search needs
 
-sub-added : tie.Need-sub-added
-sub-added c = search needs
+sub-temp : tie.Need-sub-temp
+sub-temp c = search needs
 
-mul-added : tie.Need-mul-added
-mul-added c = search needs
+mul-temp : tie.Need-mul-temp
+mul-temp c = search needs
 
-element-copy-out-added : tie.Need-element-copy-out-added
-element-copy-out-added c = search needs
+element-copy-out-temp : tie.Need-element-copy-out-temp
+element-copy-out-temp c = search needs
 
-added-requires : tie.Need-added-requires
-added-requires c κs = search needs
+temp-requires : tie.Need-temp-requires
+temp-requires c κs = search needs
 
 returns-2 : tie.Need-returns-2
 unfolding nextWord xor
@@ -42,8 +42,8 @@ next-word-spec =
     returns
     mul-result
     element-copy-out-result
-    sub-added
-    mul-added
-    element-copy-out-added
-    added-requires
+    sub-temp
+    mul-temp
+    element-copy-out-temp
+    temp-requires
     returns-2)

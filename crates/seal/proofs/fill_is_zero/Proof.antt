@@ -1,5 +1,5 @@
 use Rattle.octets.specs.Octets.{entry}
-use Rattle.lookups.specs.Tables.{tableCipher}
+use Rattle.lookups.specs.Lookups.{tableCipher}
 use Rattle.format.proofs.Sizes.{encrypt-sized, decrypt-sized}
 use Rattle.format.proofs.Opening.{fill-of-none, fill-of-block, fill-past}
 use Rattle.seal.proofs.fill_is_zero.Statement.{statement}

@@ -4,7 +4,7 @@ use Prim.Native.Nat.{ℕ}
 use lib.ListN.{length, take, drop}
 use lib.Seq.{length-take-le}
 use Rattle.octets.specs.Octets.{entry}
-use Rattle.lookups.specs.Tables.{tableCipher, oneTable}
+use Rattle.lookups.specs.Lookups.{tableCipher, oneTable}
 use Rattle.sp800_38a.specs.declared.Operation.the-variants.{CbcDecrypt}
 use Rattle.pieces.proofs.Agree.{through-whole}
 use Rattle.format.proofs.Sizes.{encrypt-sized, decrypt-sized, body-length}

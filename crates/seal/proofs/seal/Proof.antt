@@ -1,4 +1,4 @@
-use Rattle.lookups.specs.Tables.{oneTable}
+use Rattle.lookups.specs.Lookups.{oneTable}
 use Rattle.format.specs.Lent.{lentMac}
 use Rattle.format.proofs.Sealing.{seal-long, seal-short, seal-fits}
 use borrow.Author.Needs.{needs}

@@ -1,4 +1,4 @@
-use Rattle.tables.proofs.Tables.{forwardList}
+use Rattle.tables.proofs.Lists.{forwardList}
 use Rattle.tables.proofs.Laws.{forward-list}
 use Rattle.tables.proofs.forward_table.Statement.{statement}
 use Rattle.tables.proofs.forward_table.Tie as tie

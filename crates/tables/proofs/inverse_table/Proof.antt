@@ -1,4 +1,4 @@
-use Rattle.tables.proofs.Tables.{inverseList}
+use Rattle.tables.proofs.Lists.{inverseList}
 use Rattle.tables.proofs.Laws.{inverse-list}
 use Rattle.tables.proofs.inverse_table.Statement.{statement}
 use Rattle.tables.proofs.inverse_table.Tie as tie

@@ -1,7 +1,7 @@
 use lib.ListN.{length}
 use Prim.Native.Nat.{_-_}
 use mathlib.Core.Path.{refl}
-use Rattle.lookups.specs.Tables.{oneTable}
+use Rattle.lookups.specs.Lookups.{oneTable}
 use Rattle.wrap.proofs.Building.{opened-by, opened-size}
 use native.Mathlib.Omega.{arith}
 use borrow.Author.Needs.{needs}

@@ -1,5 +1,5 @@
 use borrow.Author.Tests.{not-true, not-false}
-use Rattle.lookups.specs.Tables.{oneTable}
+use Rattle.lookups.specs.Lookups.{oneTable}
 use Rattle.wrap.proofs.Building.{opened-wrong, opened-right}
 use borrow.Author.Needs.{needs}
 use Rattle.wrap.proofs.unwrap_into.Statement.{statement}

@@ -1,7 +1,7 @@
 use Prim.Native.Nat.{ℕ, _+_, _*_, _/_, _%_}
 use mathlib.Core.Path.{_≡_, refl, ap, _∙_}
 use denote.Ref.{now}
-use Rattle.lookups.specs.Tables.{oneTable}
+use Rattle.lookups.specs.Lookups.{oneTable}
 use Rattle.sp800_38a.specs.Modes.{machine}
 use Rattle.sp800_38a.specs.Pieces.{ran}
 use Rattle.pieces.proofs.Runs.{run-parts}

@@ -7,9 +7,9 @@ use mathlib.Core.Path.{_≡_, refl, sym, ap, _∙_}
 use denote.Ref.{now}
 use lib.ListN.{length, take, drop}
 use lib.Seq.{paste}
-use Rattle.lookups.specs.Tables.{oneTable}
+use Rattle.lookups.specs.Lookups.{oneTable}
 use Rattle.sp800_38a.specs.Modes.{machine}
-use Rattle.sp800_38a.specs.Pieces.{piece, made, after}
+use Rattle.sp800_38a.specs.Pieces.{piece, outputOf, after}
 use Rattle.blocks.proofs.Laws.{block-at, block-put}
 use borrow.Author.Needs.{needs}
 use native.Mathlib.Omega.{arith}
@@ -19,14 +19,14 @@ use Rattle.pieces.proofs.pairs.whole_pairs.Tie as tie
 abbrev Inv-loop : tie.InvT-loop
 Inv-loop table words rounds operation n input output₀ chain₀ i₀ output chain i =
     let m = machine (oneTable table words rounds) operation in
-    (i ≤ n) × (length output ≡ length output₀) × (length (made 16 m chain₀ (i * 2) input) ≡ i * 2 * 16)
-    × (chain ≡ after 16 m chain₀ (i * 2) input) × (output ≡ made 16 m chain₀ (i * 2) input ++ drop (i * 2 * 16) output₀)
+    (i ≤ n) × (length output ≡ length output₀) × (length (outputOf 16 m chain₀ (i * 2) input) ≡ i * 2 * 16)
+    × (chain ≡ after 16 m chain₀ (i * 2) input) × (output ≡ outputOf 16 m chain₀ (i * 2) input ++ drop (i * 2 * 16) output₀)
 
 abbrev μ-loop : tie.MeasureT-loop
 μ-loop table words rounds operation n input output₀ chain₀ i₀ output chain i = n - i
 
 loop-holds : tie.Need-loop-holds Inv-loop μ-loop
-unfolding made after
+unfolding outputOf after
 loop-holds c = (search needs, refl, refl, refl, refl)
 
 mul-load : tie.Need-mul-load Inv-loop μ-loop

@@ -1,7 +1,7 @@
 use Prim.Native.Nat.{_*_}
 use mathlib.Core.Path.{_≡_}
 use native.Mathlib.Omega.{arith}
-use Rattle.lookups.specs.Tables.{keyed}
+use Rattle.lookups.specs.Lookups.{addKeyWords}
 use Rattle.octets.specs.Octets.{xor}
 use borrow.Author.Needs.{needs}
 use Rattle.rounds.proofs.loops.add_round_key.Statement.{statement}
@@ -44,7 +44,7 @@ element-copy-out-t27 : tie.Need-element-copy-out-t27
 element-copy-out-t27 c = search needs
 
 returns : tie.Need-returns
-unfolding keyed xor
+unfolding addKeyWords xor
 returns c =
     let f = c .before .before .before .before .before .before .before .before .first-word in
     let e : f .result .0 ≡ 4 * c .before .before .before .before .before .before .before .before .before .args .n .0 = omega (arith, f .ensures) in

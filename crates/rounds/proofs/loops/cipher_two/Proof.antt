@@ -1,4 +1,4 @@
-use Rattle.lookups.specs.Tables.{keyed, lookedLast, tableForth}
+use Rattle.lookups.specs.Lookups.{addKeyWords, subShift, tableForth}
 use mathlib.Core.Path.{ap, _∙_}
 use denote.Ref.{now}
 use Rattle.octets.specs.Octets.{entry}
@@ -8,17 +8,17 @@ use borrow.Author.Needs.{needs}
 use Rattle.rounds.proofs.loops.cipher_two.Statement.{statement}
 use Rattle.rounds.proofs.loops.cipher_two.Tie as tie
 
-rounds-before-two-requires : tie.Need-rounds-before-two-requires
-rounds-before-two-requires c κs = search needs
+all-but-last-two-requires : tie.Need-all-but-last-two-requires
+all-but-last-two-requires c κs = search needs
 
-looked-last-requires : tie.Need-looked-last-requires
-looked-last-requires c κs = search needs
+sub-shift-requires : tie.Need-sub-shift-requires
+sub-shift-requires c κs = search needs
 
 add-round-key-requires : tie.Need-add-round-key-requires
 add-round-key-requires c κs = search needs
 
-looked-last-requires-2 : tie.Need-looked-last-requires-2
-looked-last-requires-2 c κs = search needs
+sub-shift-requires-2 : tie.Need-sub-shift-requires-2
+sub-shift-requires-2 c κs = search needs
 
 add-round-key-requires-2 : tie.Need-add-round-key-requires-2
 add-round-key-requires-2 c κs = search needs
@@ -32,17 +32,17 @@ returns c =
     let w = now (a .words) in
     are-states (tableForth t w (a .rounds))
     (c .before .before .add-round-key .ensures
-    ∙ ap (keyed w (a .rounds)) (c .before .before .before .looked-last .ensures ∙ ap (λ (x : TwoStates). lookedLast t (x .first)) (k .rounds-before-two .ensures)))
+    ∙ ap (addKeyWords w (a .rounds)) (c .before .before .before .sub-shift .ensures ∙ ap (λ (x : TwoStates). subShift t (x .first)) (k .all-but-last-two .ensures)))
     (c .add-round-key2 .ensures
-    ∙ ap (keyed w (a .rounds)) (c .before .looked-last2 .ensures ∙ ap (λ (x : TwoStates). lookedLast t (x .second)) (k .rounds-before-two .ensures)))
+    ∙ ap (addKeyWords w (a .rounds)) (c .before .sub-shift2 .ensures ∙ ap (λ (x : TwoStates). subShift t (x .second)) (k .all-but-last-two .ensures)))
 
 pub cipher-two-spec : {M : Type 1} → statement M
 cipher-two-spec =
     tie.close
     (tie.spec
-    rounds-before-two-requires
-    looked-last-requires
+    all-but-last-two-requires
+    sub-shift-requires
     add-round-key-requires
-    looked-last-requires-2
+    sub-shift-requires-2
     add-round-key-requires-2
     returns)

@@ -2,7 +2,7 @@ use mathlib.Core.Path.{_≡_, _∙_}
 use Prim.Native.Nat.{_-_}
 use denote.Ref.{now}
 use lib.ListN.{length}
-use Rattle.lookups.specs.Tables.{oneTable}
+use Rattle.lookups.specs.Lookups.{oneTable}
 use Rattle.sp800_38b.proofs.Filling.{to-end}
 use Rattle.running.proofs.Laws.{fed-room, fed-over}
 use borrow.Author.Needs.{needs}
@@ -35,24 +35,24 @@ xor-requires c κs = search needs
 encrypt-block-requires : tie.Need-encrypt-block-requires
 encrypt-block-requires c κs = search needs
 
-sub-taken-in : tie.Need-sub-taken-in
-sub-taken-in c = search needs
+sub-run-from : tie.Need-sub-run-from
+sub-run-from c = search needs
 
-part-taken-in-start : tie.Need-part-taken-in-start
-part-taken-in-start c = search needs
+part-run-from-start : tie.Need-part-run-from-start
+part-run-from-start c = search needs
 
-part-taken-in-end : tie.Need-part-taken-in-end
-part-taken-in-end c = search needs
+part-run-from-end : tie.Need-part-run-from-end
+part-run-from-end c = search needs
 
-taken-in-requires : tie.Need-taken-in-requires
-taken-in-requires c κs = search needs
+run-from-requires : tie.Need-run-from-requires
+run-from-requires c κs = search needs
 
 returns-2 : tie.Need-returns-2
 returns-2 c =
     let s = c .before .before .before .before .before .before .before .before .before .before in
     let x = s .args .self in
     let size : length (x .held) ≡ 16 = search needs in
-    c .taken-in .ensures ∙ rw (c .before .before .encrypt-block .ensures, c .before .before .before .xor .ensures, c .before .before .before .before .before .filled .ensures, c .before .before .before .before .before .before .room-after .ensures, to-end (now (s .args .part)) (16 - x .count))
+    c .run-from .ensures ∙ rw (c .before .before .encrypt-block .ensures, c .before .before .before .xor .ensures, c .before .before .before .before .before .filled .ensures, c .before .before .before .before .before .before .room-after .ensures, to-end (now (s .args .part)) (16 - x .count))
     (fed-over (x .held) size (oneTable (now (s .args .table)) (now (s .args .words)) (s .args .rounds)) (x .chain) (x .count) (now (s .args .part)) (search needs))
 
 pub fed-spec : {M : Type 1} → statement M
@@ -66,8 +66,8 @@ fed-spec =
     returns
     xor-requires
     encrypt-block-requires
-    sub-taken-in
-    part-taken-in-start
-    part-taken-in-end
-    taken-in-requires
+    sub-run-from
+    part-run-from-start
+    part-run-from-end
+    run-from-requires
     returns-2)

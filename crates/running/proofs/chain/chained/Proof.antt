@@ -5,7 +5,7 @@ use denote.Ref.{now}
 use lib.ListN.{drop}
 use Rattle.blocks.proofs.Laws.{block-at}
 use Rattle.sp800_38b.specs.Cmac as spec
-use Rattle.lookups.specs.Tables.{oneTable}
+use Rattle.lookups.specs.Lookups.{oneTable}
 use Rattle.sp800_38b.proofs.Chain.{chained-turn, chained-end}
 use borrow.Author.Needs.{needs}
 use Rattle.running.proofs.chain.chained.Statement.{statement}

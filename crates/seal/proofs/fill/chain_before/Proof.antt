@@ -1,7 +1,7 @@
 use Rattle.blocks.specs.Blocks.{blockAt}
 use mathlib.Core.Path.{_≡_, ap, _∙_}
 use Prim.Native.Nat.{_*_}
-use Rattle.lookups.specs.Tables.{tableEncrypt}
+use Rattle.lookups.specs.Lookups.{tableEncrypt}
 use Rattle.octets.specs.Octets.{entry}
 use Rattle.blocks.proofs.Laws.{block-at}
 use Rattle.format.proofs.Opening.{first-chain, later-chain}

@@ -2,7 +2,7 @@ use mathlib.Core.Path.{_≡_, sym, ap, _∙_}
 use Prim.Native.Nat.{ℕ, _-_, _<_}
 use lib.ListN.{drop}
 use Rattle.octets.specs.Octets.{entry}
-use Rattle.lookups.specs.Tables.{tableCipher}
+use Rattle.lookups.specs.Lookups.{tableCipher}
 use Rattle.steps.specs.declared.Stepped.{Stepped}
 use Rattle.format.specs.Sealed.{allZero, zeroAfter}
 use Rattle.format.proofs.Sizes.{encrypt-sized, decrypt-sized}

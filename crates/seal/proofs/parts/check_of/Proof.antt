@@ -1,5 +1,5 @@
 use mathlib.Core.Path.{_∙_}
-use Rattle.lookups.specs.Tables.{oneTable}
+use Rattle.lookups.specs.Lookups.{oneTable}
 use Rattle.running.proofs.Laws.{whole-by}
 use borrow.Author.Needs.{needs}
 use Rattle.seal.proofs.parts.check_of.Statement.{statement}

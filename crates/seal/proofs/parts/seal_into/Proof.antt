@@ -1,5 +1,5 @@
 use Rattle.format.proofs.Sealing.{seal-by, middle-size}
-use Rattle.lookups.specs.Tables.{oneTable}
+use Rattle.lookups.specs.Lookups.{oneTable}
 use Rattle.format.specs.Lent.{lentMac}
 use Rattle.pieces.proofs.Agree.{through-whole}
 use Rattle.sp800_38a.specs.declared.Operation.the-variants.{CbcEncrypt}

@@ -1,7 +1,7 @@
 use mathlib.Core.Path.{_≡_, ap, _∙_}
 use lib.ListN.{length}
 use Rattle.octets.specs.Octets.{entry}
-use Rattle.lookups.specs.Tables.{tableEncrypt, oneTable}
+use Rattle.lookups.specs.Lookups.{tableEncrypt, oneTable}
 use Rattle.wrap.proofs.Passing.{step-by}
 use borrow.Author.Needs.{needs}
 use Rattle.wrap.proofs.steps.step.Statement.{statement}

@@ -1,5 +1,5 @@
 use mathlib.Core.Path.{_∙_}
-use Rattle.lookups.specs.Tables.{oneTable}
+use Rattle.lookups.specs.Lookups.{oneTable}
 use Rattle.wrap.proofs.Passing.{unstep-by}
 use native.Mathlib.Omega.{arith}
 use borrow.Author.Needs.{needs}

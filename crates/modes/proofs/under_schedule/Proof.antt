@@ -1,0 +1,71 @@
+use Prim.Native.Nat.{ℕ}
+use Rattle.pieces.proofs.Agree.{through-forward, through-backward}
+use Rattle.pieces.specs.Runs.{runOver}
+use Rattle.lookups.specs.Lookups.{oneTable, inverseWords}
+use Rattle.tables.specs.Tables.{forwardTable, inverseTable}
+use denote.Ref.{now}
+use mathlib.Core.List.{List}
+use mathlib.Core.Path.{sym, ap, ap₂, _∙_}
+use borrow.Author.Needs.{needs}
+use Rattle.modes.proofs.under_schedule.Statement.{statement}
+use Rattle.modes.proofs.under_schedule.Tie as tie
+
+inverts-requires : tie.Need-inverts-requires
+inverts-requires c κs = search needs
+
+inverse-table-requires : tie.Need-inverse-table-requires
+inverse-table-requires c κs = search needs
+
+inverse-words-requires : tie.Need-inverse-words-requires
+inverse-words-requires c κs = search needs
+
+run-requires : tie.Need-run-requires
+run-requires c κs = search needs
+
+same-length : tie.Need-same-length
+same-length c = search needs
+
+returns : tie.Need-returns
+returns c =
+    let k = c .before .before .before .before .before .before in
+    let a = k .before .before .before .before .before .before .before .args in
+    let w = now (a .words) in
+    c .before .before .run .ensures
+    ∙ ap₂ (λ (t v : List ℕ). runOver (oneTable t v (a .rounds)) (a .operation) (a .iv) (now (a .input)) (now (a .output)))
+    (k .before .before .inverse-table .ensures) (k .inverse-words .ensures)
+    ∙ through-backward forwardTable inverseTable w (inverseWords w (a .rounds)) (a .rounds) (a .operation) (a .iv) (now (a .input)) (now (a .output))
+    (sym (k .before .before .before .before .inverts .ensures) ∙ k .before .before .before .if1 .taken)
+
+forward-table-requires : tie.Need-forward-table-requires
+forward-table-requires c κs = search needs
+
+run-requires-2 : tie.Need-run-requires-2
+run-requires-2 c κs = search needs
+
+same-length-2 : tie.Need-same-length-2
+same-length-2 c = search needs
+
+returns-2 : tie.Need-returns-2
+returns-2 c =
+    let k = c .before .before .before .before .before in
+    let a = k .before .before .before .before .before .args in
+    let w = now (a .words) in
+    c .before .before .run2 .ensures
+    ∙ ap (λ (t : List ℕ). runOver (oneTable t w (a .rounds)) (a .operation) (a .iv) (now (a .input)) (now (a .output))) (k .forward-table .ensures)
+    ∙ through-forward forwardTable inverseTable w (inverseWords w (a .rounds)) (a .rounds) (a .operation) (a .iv) (now (a .input)) (now (a .output))
+    (sym (k .before .before .inverts .ensures) ∙ k .before .if1 .left)
+
+pub under-schedule-spec : {M : Type 1} → statement M
+under-schedule-spec =
+    tie.close
+    (tie.spec
+    inverts-requires
+    inverse-table-requires
+    inverse-words-requires
+    run-requires
+    same-length
+    returns
+    forward-table-requires
+    run-requires-2
+    same-length-2
+    returns-2)

@@ -1,0 +1,314 @@
+-- The writer's and the reader's calls by what they rest on: keys that were taken, blocks that were sealed, runs over lent blocks. Assumes nothing.
+use mathlib.Core.Path.{_≡_, refl, sym, ap, ap₂, subst, _∙_}
+use mathlib.Core.Bool.{Bool, true, false, _&&_, not}
+use mathlib.Core.List.{List, [], _∷_, append-nil}
+use Prim.Native.Nat.{ℕ, zero, suc, _*_, _%_, _≤_, _<_}
+use native.Mathlib.Nat.{add-zero}
+use native.Mathlib.Omega.{arith}
+use borrow.Author.Tests.{eqb-true, eqb-false, eq-eqb, ltb-true, ltb-false, lt-ltb, le-ltb, le-leb, leb-true}
+use lib.Dec.{eqb, ltb, leb}
+use lib.ListN.{length, take, drop, length-drop, replicate}
+use lib.Seq.{take-at, drop-at, take-all}
+use Rattle.octets.specs.Octets.{choose, Bytes, over}
+use Rattle.octets.specs.Blocks.{Lawful}
+use Rattle.octets.proofs.Blocks.{take-octets, drop-bytes}
+use Rattle.sbox.specs.Sbox.{sBox}
+use Rattle.schedule.specs.Schedule.{scheduleOf, keyNumber, roundCount}
+use Rattle.schedule.specs.Schedule as schedule
+use Rattle.schedule.specs.declared.Expanded.{Expanded}
+use Rattle.fips197.specs.Cipher.{aesOf, standard}
+use Rattle.fips197.proofs.Aes.{aes-lawful, key-lawful}
+use Rattle.sp800_38b.specs.Cmac.{cmac}
+use Rattle.header.specs.Layout.{headOf}
+use Rattle.header.specs.Rules.{countFits, lengthFits}
+use Rattle.header.specs.declared.Verdict.the-variants.{Accepted}
+use Rattle.header.proofs.Laws.{Wide}
+use Rattle.format.specs.Edition.{one, noCheck}
+use Rattle.format.specs.Sealed.{headFor, blockFor, opened}
+use Rattle.format.specs.Judge.{Keys, begun, standing, judge, advanced}
+use Rattle.image.specs.Turn.{Reading, readBlocks, cut}
+use Rattle.image.specs.Calls.{bothTaken, writeRuled, writeAnswer, writeOutput, startedBy, startOf, keysOf, blocksBy, handled, whole, turnAfter, readingOf, turnOf}
+use Rattle.image.specs.declared.WriteAnswer.the-variants.{Written, WriteKey, WriteCount, WriteNumber, WriteLength, WriteRoom}
+use Rattle.image.specs.declared.Reader.{Reader}
+use Rattle.image.specs.declared.Stop.the-variants.{End, Asked, Lent, Room}
+use Rattle.image.specs.declared.Turn.{Turn}
+use Rattle.promises.proofs.ImageTerms.{Blocks, payload, Fit, WriteSays, inState, given, Fair, StopSays}
+use Rattle.promises.proofs.Keys.{KeyTaken}
+use Rattle.promises.proofs.Lemmas.ImageSealed.{sealed-size}
+use Rattle.promises.proofs.Lemmas.ImageJudge.{and-true, fits-le, count-fits, fits-count}
+use Rattle.promises.proofs.Lemmas.ImageTurn.{ran-accepted, out-length, none-accepted, no-keys-none, accepted-le}
+
+-- ---- keys
+
+-- what a reader with both keys judges by
+abbrev pub keysUnder : (ekey ckey : List ℕ) → Keys
+keysUnder ekey ckey = record { enc = aesOf ekey; mac = cmac (aesOf ckey); usable = true }
+
+key-known : (key : List ℕ) → KeyTaken key → roundCount (scheduleOf sBox key .schedule .rounds) ≡ true
+unfolding scheduleOf schedule.taken schedule.refused
+key-known key = each (eqb (length key) 16) (eqb (length key) 24) (eqb (length key) 32)
+  where
+    made : Bool → Bool → Bool → Expanded
+    made a b c = choose a (schedule.taken sBox key 4 10) (choose b (schedule.taken sBox key 6 12) (choose c (schedule.taken sBox key 8 14) schedule.refused))
+
+    each : (a b c : Bool) → keyNumber (made a b c .answer) ≡ 0 → roundCount (made a b c .schedule .rounds) ≡ true
+    each true b c e = refl
+    each false true c e = refl
+    each false false true e = refl
+    each false false false e = absurd (omega arith)
+
+both-taken : (e c : Expanded) → bothTaken e c ≡ true → (keyNumber (e .answer) ≡ 0) × (keyNumber (c .answer) ≡ 0)
+both-taken e c h =
+    let a = and-true (eqb (keyNumber (e .answer)) 0) (eqb (keyNumber (c .answer)) 0) h in
+    (eqb-true (keyNumber (e .answer)) 0 (a .0), eqb-true (keyNumber (c .answer)) 0 (a .1))
+
+taken-both : (e c : Expanded) → keyNumber (e .answer) ≡ 0 → keyNumber (c .answer) ≡ 0 → bothTaken e c ≡ true
+taken-both e c h g = rw (h, g)
+
+-- a start whose answer is 0 took both keys
+pub start-keys : (ekey ckey : List ℕ) → keyNumber (startOf ekey ckey .answer) ≡ 0 → KeyTaken ekey × KeyTaken ckey
+unfolding startOf
+start-keys ekey ckey h = go (bothTaken (scheduleOf sBox ekey) (scheduleOf sBox ckey)) refl h
+  where
+    go : (t : Bool) → bothTaken (scheduleOf sBox ekey) (scheduleOf sBox ckey) ≡ t → keyNumber (startedBy (scheduleOf sBox ekey) (scheduleOf sBox ckey) .answer) ≡ 0 → KeyTaken ekey × KeyTaken ckey
+    go true e q = both-taken (scheduleOf sBox ekey) (scheduleOf sBox ckey) e
+    go false e q =
+        let w : _≡_ {A = ℕ} 1 0 = rw e at q in
+        absurd (omega arith)
+
+-- and gives a fresh reader, whose keys are AES under the two
+pub start-fresh : (ekey ckey : List ℕ) → KeyTaken ekey → KeyTaken ckey
+    → (keyNumber (startOf ekey ckey .answer) ≡ 0)
+    × (keysOf (startOf ekey ckey .reader) ≡ keysUnder ekey ckey) × (startOf ekey ckey .reader .progress ≡ begun)
+unfolding startOf
+start-fresh ekey ckey h g =
+    rw (taken-both (scheduleOf sBox ekey) (scheduleOf sBox ckey) h g) (refl, ap (λ (u : Bool). record { enc = aesOf ekey; mac = cmac (aesOf ckey); usable = u }) known, refl)
+  where
+    known : (roundCount (scheduleOf sBox ekey .schedule .rounds) && roundCount (scheduleOf sBox ckey .schedule .rounds)) ≡ true
+    known = rw (key-known ekey h) (key-known ckey g)
+
+-- whatever the keys, it begins before the first block
+pub fresh-start : (ekey ckey : List ℕ) → startOf ekey ckey .reader .progress ≡ begun
+unfolding startOf
+fresh-start ekey ckey = go (bothTaken (scheduleOf sBox ekey) (scheduleOf sBox ckey)) refl
+  where
+    go : (t : Bool) → bothTaken (scheduleOf sBox ekey) (scheduleOf sBox ckey) ≡ t → startedBy (scheduleOf sBox ekey) (scheduleOf sBox ckey) .reader .progress ≡ begun
+    go true e = rw e
+    go false e = rw e
+
+-- one whose answer is 1 gives a reader without usable keys
+pub start-refused : (ekey ckey : List ℕ) → keyNumber (startOf ekey ckey .answer) ≡ 1
+    → (keysOf (startOf ekey ckey .reader) .usable ≡ false) × (startOf ekey ckey .reader .progress ≡ begun)
+unfolding startOf
+start-refused ekey ckey h = go (bothTaken (scheduleOf sBox ekey) (scheduleOf sBox ckey)) refl h
+  where
+    go : (t : Bool) → bothTaken (scheduleOf sBox ekey) (scheduleOf sBox ckey) ≡ t → keyNumber (startedBy (scheduleOf sBox ekey) (scheduleOf sBox ckey) .answer) ≡ 1
+        → (keysOf (startedBy (scheduleOf sBox ekey) (scheduleOf sBox ckey) .reader) .usable ≡ false) × (startedBy (scheduleOf sBox ekey) (scheduleOf sBox ckey) .reader .progress ≡ begun)
+    go true e q =
+        let w : _≡_ {A = ℕ} 0 1 = rw e at q in
+        absurd (omega arith)
+    go false e q = rw e (refl, refl)
+
+-- and is zeros all over
+pub start-zeros : (ekey ckey : List ℕ) → keyNumber (startOf ekey ckey .answer) ≡ 1
+    → startOf ekey ckey .reader ≡ record {
+      enc = record { words = replicate 60 0; rounds = 0 };
+      chk = record { words = replicate 60 0; rounds = 0 };
+      progress = record { next = 0; fixed = false; count = 0; release = 0 };
+    }
+unfolding startOf
+start-zeros ekey ckey h = go (bothTaken (scheduleOf sBox ekey) (scheduleOf sBox ckey)) refl h
+  where
+    go : (t : Bool) → bothTaken (scheduleOf sBox ekey) (scheduleOf sBox ckey) ≡ t → keyNumber (startedBy (scheduleOf sBox ekey) (scheduleOf sBox ckey) .answer) ≡ 1
+        → startedBy (scheduleOf sBox ekey) (scheduleOf sBox ckey) .reader ≡ record {
+          enc = record { words = replicate 60 0; rounds = 0 };
+          chk = record { words = replicate 60 0; rounds = 0 };
+          progress = record { next = 0; fixed = false; count = 0; release = 0 };
+        }
+    go true e q =
+        let w : _≡_ {A = ℕ} 0 1 = rw e at q in
+        absurd (omega arith)
+    go false e q = rw e
+
+-- usable schedules make lawful ciphers, whatever their words
+pub usable-lawful : (r : Reader) → keysOf r .usable ≡ true → Lawful 16 (keysOf r .enc) × Lawful 16 (standard (r .chk .words) (r .chk .rounds))
+usable-lawful r h =
+    let a = and-true (roundCount (r .enc .rounds)) (roundCount (r .chk .rounds)) h in
+    (aes-lawful (r .enc .words) (r .enc .rounds) (a .0), aes-lawful (r .chk .words) (r .chk .rounds) (a .1))
+
+-- ---- the writer
+
+-- every answer says what the table says of it
+pub answer-says : (ekey ckey : List ℕ) (number count : ℕ) (p out : List ℕ)
+    → WriteSays ekey ckey number count (length p) (length out) (writeAnswer ekey ckey number count p out)
+unfolding writeAnswer writeRuled
+answer-says ekey ckey number count p out =
+    go (bothTaken (scheduleOf sBox ekey) (scheduleOf sBox ckey)) (countFits count) (ltb number count) (lengthFits number count (length p)) (ltb (length out) 512) refl refl refl refl refl
+  where
+    unlike : (t : Bool) → t ≡ true → t ≡ false → ⊥
+    unlike t e f = let z : true ≡ false = sym e ∙ f in let y : _≡_ {A = ℕ} 0 1 = cc in omega arith
+
+    keys : bothTaken (scheduleOf sBox ekey) (scheduleOf sBox ckey) ≡ true → KeyTaken ekey × KeyTaken ckey
+    keys e = both-taken (scheduleOf sBox ekey) (scheduleOf sBox ckey) e
+
+    go : (a b c d e : Bool) → bothTaken (scheduleOf sBox ekey) (scheduleOf sBox ckey) ≡ a → countFits count ≡ b → ltb number count ≡ c → lengthFits number count (length p) ≡ d → ltb (length out) 512 ≡ e
+        → WriteSays ekey ckey number count (length p) (length out)
+        (choose (not a) WriteKey (choose (not b) WriteCount (choose (not c) WriteNumber (choose (not d) WriteLength (choose e WriteRoom Written)))))
+    go false b c d e ea eb ec ed ee = λ te tc. unlike (bothTaken (scheduleOf sBox ekey) (scheduleOf sBox ckey)) (taken-both (scheduleOf sBox ekey) (scheduleOf sBox ckey) te tc) ea
+    go true false c d e ea eb ec ed ee = let k = keys ea in (k .0, k .1, λ l h. unlike (countFits count) (fits-count count l h) eb)
+    go true true false d e ea eb ec ed ee = let k = keys ea in let f = count-fits count eb in (k .0, k .1, f .0, f .1, ltb-false number count ec)
+    go true true true false e ea eb ec ed ee = let k = keys ea in let f = count-fits count eb in (k .0, k .1, f .1, ltb-true number count ec, ed)
+    go true true true true true ea eb ec ed ee = let k = keys ea in let f = count-fits count eb in (k .0, k .1, f .1, ltb-true number count ec, ed, ltb-true (length out) 512 ee)
+    go true true true true false ea eb ec ed ee =
+        let k = keys ea in
+        let c = count-fits count eb in
+        record {
+          ekey-taken = k .0;
+          ckey-taken = k .1;
+          count-low = c .0;
+          count-high = c .1;
+          below = ltb-true number count ec;
+          len-fits = ed;
+          roomy = ltb-false (length out) 512 ee;
+        }
+
+-- it writes where all that it asks holds, and only there
+pub written-fit : (ekey ckey : List ℕ) (number count : ℕ) (p out : List ℕ) → writeAnswer ekey ckey number count p out ≡ Written → Fit ekey ckey number count (length p) (length out)
+written-fit ekey ckey number count p out e = subst (WriteSays ekey ckey number count (length p) (length out)) e (answer-says ekey ckey number count p out)
+
+pub fit-written : (ekey ckey : List ℕ) (number count : ℕ) (p out : List ℕ) → KeyTaken ekey → KeyTaken ckey → countFits count ≡ true → number < count
+    → lengthFits number count (length p) ≡ true → 512 ≤ length out → writeAnswer ekey ckey number count p out ≡ Written
+unfolding writeAnswer writeRuled
+fit-written ekey ckey number count p out te tc c b f o =
+    rw (taken-both (scheduleOf sBox ekey) (scheduleOf sBox ckey) te tc, c, lt-ltb number count b, f, le-ltb (length out) 512 o)
+
+-- the block that it writes: of edition 1, under the header that it was told
+abbrev pub blockOf : (ekey ckey : List ℕ) (number count release : ℕ) (payload : List ℕ) → List ℕ
+blockOf ekey ckey number count release payload = blockFor one (aesOf ekey) (aesOf ckey) noCheck number count release payload
+
+none : Bytes []
+none k = omega arith
+
+module _ (ekey ckey : List ℕ) (number count release : ℕ) (p out : List ℕ) (bp : Bytes p) (w : writeAnswer ekey ckey number count p out ≡ Written) where
+  abbrev fit : Fit ekey ckey number count (length p) (length out)
+  fit = written-fit ekey ckey number count p out w
+
+  pub small : length p ≤ 480
+  small = fits-le number count (length p) (fit .len-fits)
+
+  block-size : length (blockOf ekey ckey number count release p) ≡ 512
+  block-size = sealed-size (aesOf ekey) (aesOf ckey) (key-lawful ekey (fit .ekey-taken)) (key-lawful ckey (fit .ckey-taken)) (headFor one number count release (length p)) p small bp [] none
+
+  -- the first 512 bytes of the output are the block, and the rest stays
+  pub output-block : take 512 (writeOutput Written ekey ckey number count release p out) ≡ blockOf ekey ckey number count release p
+  output-block = take-at (blockOf ekey ckey number count release p) (drop (length (blockOf ekey ckey number count release p)) out) 512 block-size
+
+  pub output-rest : drop 512 (writeOutput Written ekey ckey number count release p out) ≡ drop 512 out
+  output-rest =
+      drop-at (blockOf ekey ckey number count release p) (drop (length (blockOf ekey ckey number count release p)) out) 512 block-size
+      ∙ ap (λ (n : ℕ). drop n out) block-size
+
+  pub block-wide : release < 4294967296 → Wide (headFor one number count release (length p))
+  block-wide hr = record {
+    number-wide = omega (arith, fit .below, fit .count-high);
+    count-wide = omega (arith, fit .count-high);
+    release-wide = hr;
+    len-wide = omega (arith, small);
+    reserved-wide = omega arith;
+  }
+
+-- ---- lent blocks
+
+pub cut-length : (n : ℕ) (s : List ℕ) → length (cut n s) ≡ n
+unfolding cut
+cut-length zero s = refl
+cut-length (suc n) s = ap suc (cut-length n (drop 512 s))
+
+cut-blocks : (n : ℕ) (s : List ℕ) → n * 512 ≤ length s → Bytes s → Blocks (cut n s)
+unfolding cut
+cut-blocks zero s h b = tt
+cut-blocks (suc n) s h b = (take-octets 512 s (omega arith) b, cut-blocks n (drop 512 s) (omega (arith, length-drop 512 s)) (drop-bytes 512 s b))
+
+pub given-blocks : (lent : List ℕ) (asked : ℕ) → Bytes lent → Blocks (given lent asked)
+given-blocks lent asked b = cut-blocks (handled lent asked) lent (omega arith) b
+
+-- ---- a turn
+
+module _ (r : Reader) (lent : List ℕ) (asked : ℕ) (out : List ℕ) where
+  -- a turn that is not refused as a whole is the run over the blocks handled
+  pub fair-turn : Fair lent asked out → turnOf r lent asked out ≡ (turnAfter r (readingOf r lent asked), over (readingOf r lent asked .out) out)
+  unfolding turnOf
+  fair-turn f =
+      rw (
+        lt-ltb 0 asked (f .some-asked),
+        le-leb asked 128 (f .few-asked),
+        eq-eqb (length lent % 512) 0 (f .blocks-lent),
+        le-ltb (length out) (handled lent asked * 480) (omega (arith, f .room)),
+      )
+
+  -- every turn is refused as a whole, by 5, 6 or 4, where the table says so, or is that run
+  pub told-turn : (P : Turn × List ℕ → Type 0)
+      → (StopSays r lent asked out Asked → P (whole r Asked, out)) → (StopSays r lent asked out Lent → P (whole r Lent, out)) → (StopSays r lent asked out Room → P (whole r Room, out))
+      → (Fair lent asked out → P (turnAfter r (readingOf r lent asked), over (readingOf r lent asked .out) out)) → P (turnOf r lent asked out)
+  unfolding turnOf
+  told-turn P a l o f = go (ltb 0 asked && leb asked 128) (eqb (length lent % 512) 0) (ltb (length out) (handled lent asked * 480)) refl refl refl
+    where
+      t : Turn × List ℕ
+      t = (turnAfter r (readingOf r lent asked), over (readingOf r lent asked .out) out)
+
+      bad : (ltb 0 asked && leb asked 128) ≡ false → 0 < asked → asked ≤ 128 → ⊥
+      bad e p q =
+          let y : true ≡ false = sym (rw (lt-ltb 0 asked p) (le-leb asked 128 q)) ∙ e in
+          let z : _≡_ {A = ℕ} 0 1 = cc in omega arith
+
+      some : (ltb 0 asked && leb asked 128) ≡ true → (0 < asked) × (asked ≤ 128)
+      some e = let x = and-true (ltb 0 asked) (leb asked 128) e in (ltb-true 0 asked (x .0), leb-true asked 128 (x .1))
+
+      go : (x y z : Bool) → (ltb 0 asked && leb asked 128) ≡ x → eqb (length lent % 512) 0 ≡ y → ltb (length out) (handled lent asked * 480) ≡ z
+          → P (choose (not x) (whole r Asked, out) (choose (not y) (whole r Lent, out) (choose z (whole r Room, out) t)))
+      go false y z ex ey ez = a (bad ex)
+      go true false z ex ey ez = let x = some ex in l (x .0, x .1, eqb-false (length lent % 512) 0 ey)
+      go true true true ex ey ez =
+          let x = some ex in
+          let h : length out < handled lent asked * 480 = ltb-true (length out) (handled lent asked * 480) ez in
+          o (x .0, x .1, eqb-true (length lent % 512) 0 ey, omega arith)
+      go true true false ex ey ez =
+          let x = some ex in
+          let h : handled lent asked * 480 ≤ length out = ltb-false (length out) (handled lent asked * 480) ez in
+          f (record { some-asked = x .0; few-asked = x .1; blocks-lent = eqb-true (length lent % 512) 0 ey; room = omega arith })
+
+  pub by-turn : (P : Turn × List ℕ → Type 0) → P (whole r Asked, out) → P (whole r Lent, out) → P (whole r Room, out)
+      → (Fair lent asked out → P (turnAfter r (readingOf r lent asked), over (readingOf r lent asked .out) out)) → P (turnOf r lent asked out)
+  by-turn P a l o f = told-turn P (λ x. a) (λ x. l) (λ x. o) f
+
+  -- 480 bytes are handed out of each accepted block, whatever the reader
+  pub reading-length : Bytes lent → length (readingOf r lent asked .out) ≡ 480 * readingOf r lent asked .accepted
+  reading-length b = go (keysOf r .usable) refl
+    where
+      go : (u : Bool) → keysOf r .usable ≡ u → length (readingOf r lent asked .out) ≡ 480 * readingOf r lent asked .accepted
+      go true e = out-length (keysOf r) one (usable-lawful r e .0) (standing (r .progress)) (given lent asked) (given-blocks lent asked b)
+      go false e =
+          let n = no-keys-none (keysOf r) one e (standing (r .progress)) (given lent asked) in
+          let o = none-accepted (blocksBy r) (standing (r .progress)) (given lent asked) n in
+          ap length (o .2) ∙ sym (ap (480 *_) n)
+
+  pub reading-le : readingOf r lent asked .accepted ≤ handled lent asked
+  reading-le = subst (λ (n : ℕ). readingOf r lent asked .accepted ≤ n) (cut-length (handled lent asked) lent) (accepted-le (blocksBy r) (standing (r .progress)) (given lent asked))
+
+-- a reader offered one block that it accepts
+pub one-accepted : (r : Reader) (b : List ℕ) (asked : ℕ) (out : List ℕ) → length b ≡ 512 → 0 < asked → asked ≤ 128 → 480 ≤ length out
+    → judge (keysOf r) one (standing (r .progress)) b ≡ Accepted
+    → turnOf r b asked out
+    ≡ (record { reader = inState r (advanced (r .progress) (headOf b)); accepted = 1; bytes = headOf b .len; stop = End }, over (opened (keysOf r .enc) b) out)
+unfolding cut readBlocks
+one-accepted r b asked out lb la ha lo e =
+    fair-turn r b asked out (record { some-asked = la; few-asked = ha; blocks-lent = omega arith; room = omega (arith, n) })
+    ∙ ap (λ (t : Reading). (turnAfter r t, over (t .out) out)) (ap (readBlocks (blocksBy r) (standing (r .progress))) c ∙ ran-accepted (blocksBy r) (standing (r .progress)) b [] e)
+    ∙ ap₂ (λ (m : ℕ) (x : List ℕ). (record { reader = inState r (advanced (r .progress) (headOf b)); accepted = 1; bytes = m; stop = End }, over x out))
+    (add-zero (headOf b .len)) (append-nil (opened (keysOf r .enc) b))
+  where
+    n : handled b asked ≡ 1
+    n = omega arith
+
+    c : given b asked ≡ b ∷ []
+    c = ap (λ (m : ℕ). cut m b) n ∙ ap (λ (x : List ℕ). x ∷ []) (take-all 512 b (omega arith))

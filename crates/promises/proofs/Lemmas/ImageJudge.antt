@@ -1,0 +1,372 @@
+-- What a reader asks of a block: a sealed block in the right state is accepted, a damaged one never, and an accepted one was sealed. Assumes nothing.
+use mathlib.Core.Path.{_≡_, refl, sym, ap, ap₂, subst, _∙_}
+use mathlib.Core.Logic.{⊎-elim}
+use mathlib.Core.Bool.{Bool, true, false, _&&_, _||_, not}
+use mathlib.Core.List.{List, [], _∷_, _++_}
+use Prim.Native.Nat.{ℕ, zero, suc, _+_, _-_, _%_, _≤_, _<_}
+use native.Mathlib.Nat.{eq-or-lt-of-le}
+use native.Mathlib.Omega.{arith}
+use borrow.Author.Tests.{eqb-true, eqb-false, eq-eqb, ne-eqb, ltb-true, ltb-false, lt-ltb, le-ltb, leb-true, le-leb, not-true, not-false}
+use lib.Dec.{eqb, ltb, leb}
+use lib.ListN.{length, take, drop, length-drop, take-append-drop}
+use lib.Seq.{length-take-le, take-add}
+use Rattle.octets.specs.Octets.{choose, Bytes, Octets}
+use Rattle.octets.specs.Blocks.{BlockCipher, Lawful}
+use Rattle.octets.proofs.Blocks.{take-bytes, drop-bytes, take-octets}
+use Rattle.sp800_38a.specs.Modes.{moded}
+use Rattle.sp800_38a.specs.declared.Operation.the-variants.{CbcEncrypt, CbcDecrypt}
+use Rattle.sp800_38a.proofs.Sixteen.{length-16, undone-16, bytes-16}
+use Rattle.sp800_38b.specs.Cmac.{cmac, SameOutside}
+use Rattle.header.specs.Layout.{headOf}
+use Rattle.header.specs.Rules.{firstOf, done, countFits, lengthFits, headTests}
+use Rattle.header.specs.declared.Head.{Head}
+use Rattle.header.specs.declared.Progress.{Progress}
+use Rattle.header.specs.declared.Reason.{Reason}
+use Rattle.header.specs.declared.Reason.the-variants.{AfterLast, CheckWrong, Count, Number, OtherCount, OtherRelease, NotBelow, Length, Reserved, FillNotZero}
+use Rattle.header.specs.declared.Verdict.{Verdict}
+use Rattle.header.specs.declared.Verdict.the-variants.{Accepted, Refused}
+use Rattle.header.proofs.Laws.{Wide, head-bytes}
+use Rattle.header.proofs.Order.{all-false, all-accepted}
+use Rattle.blocks.proofs.Laws.{same-true}
+use Rattle.format.specs.Sealed.{filled, front, sealed, opened, checks, zeroAfter, fillZero}
+use Rattle.format.specs.Edition.{Edition}
+use Rattle.format.specs.Judge.{Keys, Standing, tests, judge}
+use Rattle.promises.proofs.ImageTerms.{Right, Met, Row, rank, Says, unchecked, payload}
+use Rattle.promises.proofs.Lemmas.ImageSealed.{fill-of, sealed-size, sealed-bytes, sealed-checks, sealed-head, sealed-fill, same-block}
+
+-- ---- tests
+
+either : (t : Bool) → (t ≡ true → ⊥) → t ≡ false
+either true n = absurd (n refl)
+either false n = refl
+
+pub and-true : (a b : Bool) → (a && b) ≡ true → (a ≡ true) × (b ≡ true)
+and-true true b e = (refl, e)
+and-true false b e = let z : _≡_ {A = ℕ} 0 1 = cc in absurd (omega arith)
+
+and-imp : (a b : Bool) → (a && not b) ≡ false → a ≡ true → b ≡ true
+and-imp true true e f = refl
+and-imp true false e f = sym e
+and-imp false b e f = let z : _≡_ {A = ℕ} 0 1 = cc in absurd (omega arith)
+
+imp-and : (a b : Bool) → (a ≡ true → b ≡ true) → (a && not b) ≡ false
+imp-and true b f = ap not (f refl)
+imp-and false b f = refl
+
+pub count-fits : (n : ℕ) → countFits n ≡ true → (0 < n) × (n ≤ 65535)
+unfolding countFits
+count-fits n e = let a = and-true (ltb 0 n) (leb n 65535) e in (ltb-true 0 n (a .0), leb-true n 65535 (a .1))
+
+pub fits-count : (n : ℕ) → 0 < n → n ≤ 65535 → countFits n ≡ true
+unfolding countFits
+fits-count n l h = rw (lt-ltb 0 n l) (le-leb n 65535 h)
+
+-- ---- what the tests ask of a header
+
+abbrev asked : (mark : ℕ) → Progress → Head → (check fill : Bool) → List (Bool × Reason)
+asked mark s h check fill = (done s, AfterLast) ∷ (not check, CheckWrong) ∷ (headTests mark s h ++ ((not fill, FillNotZero) ∷ []))
+
+asked-right : (mark : ℕ) (s : Progress) (h : Head) (check fill : Bool) → firstOf (asked mark s h check fill) ≡ Accepted → Right mark s h × (check ≡ true) × (fill ≡ true)
+unfolding headTests
+asked-right mark s h check fill e =
+    let a = all-false (asked mark s h check fill) e in
+    let c = count-fits (h .count) (not-false (countFits (h .count)) (a .1 .1 .0)) in (
+      record {
+        count-low = c .0;
+        count-high = c .1;
+        expected = eqb-true (h .number) (s .next) (not-false (eqb (h .number) (s .next)) (a .1 .1 .1 .0));
+        same-count = λ f. eqb-true (h .count) (s .count) (and-imp (s .fixed) (eqb (h .count) (s .count)) (a .1 .1 .1 .1 .0) f);
+        same-release = λ f. eqb-true (h .release) (s .release) (and-imp (s .fixed) (eqb (h .release) (s .release)) (a .1 .1 .1 .1 .1 .0) f);
+        below = ltb-true (h .number) (h .count) (not-false (ltb (h .number) (h .count)) (a .1 .1 .1 .1 .1 .1 .0));
+        len-fits = not-false (lengthFits (h .number) (h .count) (h .len)) (a .1 .1 .1 .1 .1 .1 .1 .0);
+        marked = eqb-true (h .reserved) mark (not-false (eqb (h .reserved) mark) (a .1 .1 .1 .1 .1 .1 .1 .1 .0));
+      },
+      not-false check (a .1 .0),
+      not-false fill (a .1 .1 .1 .1 .1 .1 .1 .1 .1 .0),
+    )
+
+-- right headers come from a state that is not complete
+right-open : (mark : ℕ) (s : Progress) (h : Head) → Right mark s h → done s ≡ false
+unfolding done
+right-open mark s h r = go (s .fixed) refl
+  where
+    go : (t : Bool) → s .fixed ≡ t → (t && eqb (s .next) (s .count)) ≡ false
+    go true e = ne-eqb (s .next) (s .count) (λ q. omega (arith, r .expected, r .same-count e, r .below))
+    go false e = refl
+
+right-asked : (mark : ℕ) (s : Progress) (h : Head) (check fill : Bool) → Right mark s h → check ≡ true → fill ≡ true → firstOf (asked mark s h check fill) ≡ Accepted
+unfolding headTests
+right-asked mark s h check fill r c f =
+    all-accepted (asked mark s h check fill) (
+      right-open mark s h r,
+      (
+        ap not c,
+        (
+          ap not (fits-count (h .count) (r .count-low) (r .count-high)),
+          (
+            ap not (eq-eqb (h .number) (s .next) (r .expected)),
+            (
+              imp-and (s .fixed) (eqb (h .count) (s .count)) (λ e. eq-eqb (h .count) (s .count) (r .same-count e)),
+              (
+                imp-and (s .fixed) (eqb (h .release) (s .release)) (λ e. eq-eqb (h .release) (s .release) (r .same-release e)),
+                (
+                  ap not (lt-ltb (h .number) (h .count) (r .below)),
+                  (
+                    ap not (r .len-fits),
+                    (
+                      ap not (eq-eqb (h .reserved) mark (r .marked)),
+                      (ap not f, tt),
+                    ),
+                  ),
+                ),
+              ),
+            ),
+          ),
+        ),
+      ),
+    )
+
+-- a payload is at most 480 bytes
+pub fits-le : (number count len : ℕ) → lengthFits number count len ≡ true → len ≤ 480
+unfolding lengthFits
+fits-le number count len e = go (eqb (number + 1) count) e
+  where
+    go : (t : Bool) → choose t (leb len 480 && (ltb 0 len || eqb count 1)) (eqb len 480) ≡ true → len ≤ 480
+    go true e = leb-true len 480 (and-true (leb len 480) (ltb 0 len || eqb count 1) e .0)
+    go false e = omega (arith, eqb-true len 480 e)
+
+-- ---- the verdict, in every edition
+
+module _ (k : Keys) (ed : Edition) (s : Standing) (b : List ℕ) where
+  -- accepted is what meets every test
+  pub accepted-met : judge k ed s b ≡ Accepted → Met k ed s b
+  unfolding judge
+  accepted-met e =
+      let a = asked-right (ed .mark) (s .progress) (headOf b) (k .usable && checks (k .mac) (ed .tail (s .last)) b) (fillZero (k .enc) b) e in
+      let c = and-true (k .usable) (checks (k .mac) (ed .tail (s .last)) b) (a .1) in
+      record { usable-keys = c .0; check-right = c .1; head-right = a .0; fill-zero = a .2 }
+
+  pub met-accepted : Met k ed s b → judge k ed s b ≡ Accepted
+  unfolding judge
+  met-accepted m =
+      right-asked (ed .mark) (s .progress) (headOf b) (k .usable && checks (k .mac) (ed .tail (s .last)) b) (fillZero (k .enc) b) (m .head-right) (rw (m .usable-keys) (m .check-right)) (m .fill-zero)
+
+  -- where the check is not right
+  no-check : (k .usable && checks (k .mac) (ed .tail (s .last)) b) ≡ false → judge k ed s b ≡ unchecked (s .progress)
+  unfolding judge firstOf
+  no-check e = rw e
+
+  -- a block whose check is wrong is refused by 16 or 14
+  pub wrong-check : checks (k .mac) (ed .tail (s .last)) b ≡ false → judge k ed s b ≡ unchecked (s .progress)
+  wrong-check e = no-check (go (k .usable))
+    where
+      go : (t : Bool) → (t && checks (k .mac) (ed .tail (s .last)) b) ≡ false
+      go true = e
+      go false = refl
+
+  -- and every block offered to a reader without usable keys
+  pub no-keys : k .usable ≡ false → judge k ed s b ≡ unchecked (s .progress)
+  no-keys e = no-check (rw e)
+
+-- ---- every verdict says what the table says of it, and that nothing asked before it holds
+
+testAt : List (Bool × Reason) → ℕ → Bool
+testAt [] n = false
+testAt (t ∷ ts) zero = t .0
+testAt (t ∷ ts) (suc n) = testAt ts n
+
+-- tests in the order of their ranks, from i on: each that holds gives its row
+abbrev Ranked : (Reason → Type 0) → ℕ → List (Bool × Reason) → Type 0
+Ranked R i [] = Unit {0}
+Ranked R i (t ∷ ts) = (rank (t .1) ≡ i) × (t .0 ≡ true → R (t .1)) × Ranked R (suc i) ts
+
+true-false : (t : Bool) → t ≡ true → t ≡ false → ⊥
+true-false t e f = let z : true ≡ false = sym e ∙ f in let y : _≡_ {A = ℕ} 0 1 = cc in omega arith
+
+-- the first that holds
+first-told : (R : Reason → Type 0) (i : ℕ) (ts : List (Bool × Reason)) → Ranked R i ts → ((q : Reason) → R q → i ≤ rank q → testAt ts (rank q - i) ≡ true)
+    → ((q : Reason) → rank q < i → R q → ⊥) → (r : Reason) → firstOf ts ≡ Refused r → R r × ((q : Reason) → rank q < rank r → R q → ⊥)
+unfolding firstOf testAt
+first-told R i [] w holds none r e = let z : _≡_ {A = ℕ} 0 1 = cc in absurd (omega arith)
+first-told R i (t ∷ ts) w holds none r e = go (t .0) refl e (first-told R (suc i) ts (w .2) further)
+  where
+    further : (q : Reason) → R q → suc i ≤ rank q → testAt ts (rank q - suc i) ≡ true
+    further q x h = let z : rank q - i ≡ suc (rank q - suc i) = omega arith in ap (testAt (t ∷ ts)) (sym z) ∙ holds q x (omega arith)
+
+    here : (q : Reason) → rank q ≡ i → R q → t .0 ≡ true
+    here q h x = let z : rank q - i ≡ 0 = omega arith in ap (testAt (t ∷ ts)) (sym z) ∙ holds q x (omega arith)
+
+    go : (b : Bool) → t .0 ≡ b → choose b (Refused (t .1)) (firstOf ts) ≡ Refused r
+        → (((q : Reason) → rank q < suc i → R q → ⊥) → (r : Reason) → firstOf ts ≡ Refused r → R r × ((q : Reason) → rank q < rank r → R q → ⊥))
+        → R r × ((q : Reason) → rank q < rank r → R q → ⊥)
+    go true f g rest =
+        let same : t .1 ≡ r = cc in
+        let n : rank r ≡ i = ap rank (sym same) ∙ w .0 in
+        (subst R same (w .1 f), λ q h. none q (omega arith))
+    go false f g rest = rest (λ q h x. ⊎-elim (λ z. true-false (t .0) (here q z x) f) (λ l. none q l x) (eq-or-lt-of-le {n = rank q} {m = i} (omega arith))) r g
+
+module _ (k : Keys) (ed : Edition) (s : Standing) (b : List ℕ) where
+  ranked : Ranked (Row k ed s b) 0 (tests k ed s b)
+  unfolding headTests
+  ranked =
+      let h = headOf b in
+      let p = s .progress in (
+        refl,
+        λ e. e,
+        (
+          refl,
+          λ e. not-true (k .usable && checks (k .mac) (ed .tail (s .last)) b) e,
+          (
+            refl,
+            λ e. (refl, λ l m. true-false (countFits (h .count)) (fits-count (h .count) l m) (not-true (countFits (h .count)) e)),
+            (
+              refl,
+              λ e. (refl, eqb-false (h .number) (p .next) (not-true (eqb (h .number) (p .next)) e)),
+              (
+                refl,
+                λ e. let a = and-true (p .fixed) (not (eqb (h .count) (p .count))) e in (refl, a .0, eqb-false (h .count) (p .count) (not-true (eqb (h .count) (p .count)) (a .1))),
+                (
+                  refl,
+                  λ e. let a = and-true (p .fixed) (not (eqb (h .release) (p .release))) e in (refl, a .0, eqb-false (h .release) (p .release) (not-true (eqb (h .release) (p .release)) (a .1))),
+                  (
+                    refl,
+                    λ e. (refl, ltb-false (h .number) (h .count) (not-true (ltb (h .number) (h .count)) e)),
+                    (
+                      refl,
+                      λ e. (refl, not-true (lengthFits (h .number) (h .count) (h .len)) e),
+                      (
+                        refl,
+                        λ e. (refl, eqb-false (h .reserved) (ed .mark) (not-true (eqb (h .reserved) (ed .mark)) e)),
+                        (refl, λ e. not-true (fillZero (k .enc) b) e, tt),
+                      ),
+                    ),
+                  ),
+                ),
+              ),
+            ),
+          ),
+        ),
+      )
+
+  -- a row that holds is a test that does
+  row-test : (q : Reason) → Row k ed s b q → 0 ≤ rank q → testAt (tests k ed s b) (rank q - 0) ≡ true
+  unfolding testAt headTests
+  row-test AfterLast x h = x
+  row-test CheckWrong x h = ap not x
+  row-test (Count v) x h = ap not (either (countFits (headOf b .count)) (λ e. let c = count-fits (headOf b .count) e in x .1 (omega (arith, x .0, c .0)) (omega (arith, x .0, c .1))))
+  row-test (Number v) x h = ap not (ne-eqb (headOf b .number) (s .progress .next) (λ e. x .1 (x .0 ∙ e)))
+  row-test (OtherCount v) x h = rw (x .1) (ap not (ne-eqb (headOf b .count) (s .progress .count) (λ e. x .2 (x .0 ∙ e))))
+  row-test (OtherRelease v) x h = rw (x .1) (ap not (ne-eqb (headOf b .release) (s .progress .release) (λ e. x .2 (x .0 ∙ e))))
+  row-test (NotBelow v) x h = ap not (le-ltb (headOf b .number) (headOf b .count) (omega (arith, x .0, x .1)))
+  row-test (Length v) x h = ap not (ap (lengthFits (headOf b .number) (headOf b .count)) (sym (x .0)) ∙ x .1)
+  row-test (Reserved v) x h = ap not (ne-eqb (headOf b .reserved) (ed .mark) (λ e. x .1 (x .0 ∙ e)))
+  row-test FillNotZero x h = ap not x
+
+  refused-says : (r : Reason) → judge k ed s b ≡ Refused r → Says k ed s b (Refused r)
+  unfolding judge
+  refused-says r e = first-told (Row k ed s b) 0 (tests k ed s b) ranked row-test (λ q h. absurd (omega arith)) r e
+
+  pub verdict-says : (v : Verdict) → judge k ed s b ≡ v → Says k ed s b v
+  verdict-says Accepted e = accepted-met k ed s b e
+  verdict-says (Refused r) e = refused-says r e
+
+  pub no-row-accepted : ((r : Reason) → Row k ed s b r → ⊥) → judge k ed s b ≡ Accepted
+  no-row-accepted n = go (judge k ed s b) refl
+    where
+      go : (v : Verdict) → judge k ed s b ≡ v → v ≡ Accepted
+      go Accepted e = refl
+      go (Refused r) e = absurd (n r (refused-says r e .0))
+
+-- ---- sealed blocks
+
+module _ (ek ck : BlockCipher) (le : Lawful 16 ek) (lc : Lawful 16 ck) where
+  abbrev with : Bool → Keys
+  with usable = record { enc = ek; mac = cmac ck; usable = usable }
+
+  -- a sealed block is accepted where the reader stands right for it
+  pub sealed-accepted : (ed : Edition) (s : Standing) (h : Head) (p : List ℕ) → Bytes (ed .tail (s .last)) → Bytes p → length p ≡ h .len → Wide h → Right (ed .mark) (s .progress) h
+      → judge (with true) ed s (sealed ek (cmac ck) (ed .tail (s .last)) h p) ≡ Accepted
+  sealed-accepted ed s h p bt bp lp w r =
+      let tail = ed .tail (s .last) in
+      let small : length p ≤ 480 = omega (arith, lp, fits-le (h .number) (h .count) (h .len) (r .len-fits)) in
+      met-accepted (with true) ed s (sealed ek (cmac ck) tail h p)
+      (record {
+        usable-keys = refl;
+        check-right = sealed-checks ek ck le lc h p small bp tail bt;
+        head-right = rw (sealed-head ek ck le lc h p small bp tail bt w) r;
+        fill-zero = sealed-fill ek ck le lc h p small bp tail bt w lp;
+      })
+
+  -- a block that is a sealed one outside one piece, and is not that one, has a wrong check
+  pub damaged-check : (tail : List ℕ) (h : Head) (p : List ℕ) → Bytes tail → length p ≤ 480 → Bytes p
+      → (i : ℕ) (b : List ℕ) → length b ≡ 512 → Bytes b → SameOutside i b (sealed ek (cmac ck) tail h p) → (b ≡ sealed ek (cmac ck) tail h p → ⊥) → checks (cmac ck) tail b ≡ false
+  damaged-check tail h p bt lp bp i b lb bb o n = go (checks (cmac ck) tail b) refl
+    where
+      go : (t : Bool) → checks (cmac ck) tail b ≡ t → checks (cmac ck) tail b ≡ false
+      go true e =
+          absurd (n (same-block i b (sealed ek (cmac ck) tail h p) tail lb (sealed-size ek ck le lc h p lp bp tail bt) o ck lc bb (sealed-bytes ek ck le lc h p lp bp tail bt) bt e (sealed-checks ek ck le lc h p lp bp tail bt)))
+      go false e = e
+
+  -- hence it is refused by every reader of the edition whose last check is the one that it was sealed on
+  pub damaged-refused : (ed : Edition) (usable : Bool) (s : Standing) (h : Head) (p : List ℕ) → Bytes (ed .tail (s .last)) → length p ≤ 480 → Bytes p
+      → (i : ℕ) (b : List ℕ) → length b ≡ 512 → Bytes b → SameOutside i b (sealed ek (cmac ck) (ed .tail (s .last)) h p) → (b ≡ sealed ek (cmac ck) (ed .tail (s .last)) h p → ⊥)
+      → judge (with usable) ed s b ≡ unchecked (s .progress)
+  damaged-refused ed usable s h p bt lp bp i b lb bb o n =
+      wrong-check (with usable) ed s b (damaged-check (ed .tail (s .last)) h p bt lp bp i b lb bb o n)
+
+-- ---- what is opened
+
+module _ (ek : BlockCipher) (le : Lawful 16 ek) (b : List ℕ) (lb : length b ≡ 512) (bb : Bytes b) where
+  cipher : List ℕ
+  cipher = take 480 (drop 16 b)
+
+  cipher-octets : Octets 480 cipher
+  unfolding cipher
+  cipher-octets = take-octets 480 (drop 16 b) (omega (arith, length-drop 16 b)) (drop-bytes 16 b bb)
+
+  whole-pieces : length cipher % 16 ≡ 0
+  whole-pieces = omega (arith, cipher-octets .size)
+
+  iv-octets : Octets 16 (ek .enc (take 16 b))
+  iv-octets = le .enc-block (take 16 b) (take-octets 16 b (omega arith) bb)
+
+  pub opened-length : length (opened ek b) ≡ 480
+  unfolding opened cipher
+  opened-length = length-16 ek le CbcDecrypt (ek .enc (take 16 b)) cipher iv-octets (cipher-octets .bytes) whole-pieces ∙ cipher-octets .size
+
+  opened-bytes : Bytes (opened ek b)
+  unfolding opened cipher
+  opened-bytes = bytes-16 ek le CbcDecrypt (ek .enc (take 16 b)) cipher iv-octets (cipher-octets .bytes) whole-pieces
+
+  enciphered : moded 16 ek CbcEncrypt (ek .enc (take 16 b)) (opened ek b) ≡ cipher
+  unfolding opened cipher
+  enciphered = undone-16 ek le CbcDecrypt (ek .enc (take 16 b)) cipher iv-octets (cipher-octets .bytes) whole-pieces
+
+-- what an accepted block opens to is its payload and zero fill, and the block is the sealing of its header and payload
+module _ (k : Keys) (le : Lawful 16 (k .enc)) (ed : Edition) (s : Standing) (b : List ℕ) (lb : length b ≡ 512) (bb : Bytes b) (m : Met k ed s b) where
+  small : headOf b .len ≤ 480
+  small = fits-le (headOf b .number) (headOf b .count) (headOf b .len) (m .head-right .len-fits)
+
+  pub payload-length : length (payload (k .enc) b) ≡ headOf b .len
+  payload-length = length-take-le (headOf b .len) (opened (k .enc) b) (omega (arith, opened-length (k .enc) le b lb bb, small))
+
+  pub payload-bytes : Bytes (payload (k .enc) b)
+  payload-bytes = take-bytes (headOf b .len) (opened (k .enc) b) (opened-bytes (k .enc) le b lb bb)
+
+  pub payload-filled : filled (payload (k .enc) b) ≡ opened (k .enc) b
+  unfolding zeroAfter
+  payload-filled = fill-of (opened (k .enc) b) (headOf b .len) (opened-length (k .enc) le b lb bb) small (m .fill-zero)
+
+  front-is : front (k .enc) (headOf b) (payload (k .enc) b) ≡ take 496 b
+  unfolding front cipher
+  front-is =
+      let eh = head-bytes b bb (omega arith) in
+      ap₂ _++_ eh (ap₂ (λ (x y : List ℕ). moded 16 (k .enc) CbcEncrypt ((k .enc) .enc x) y) eh payload-filled ∙ enciphered (k .enc) le b lb bb)
+      ∙ sym (take-add 16 480 b)
+
+  pub accepted-sealed : b ≡ sealed (k .enc) (k .mac) (ed .tail (s .last)) (headOf b) (payload (k .enc) b)
+  unfolding sealed checks
+  accepted-sealed =
+      let tail = ed .tail (s .last) in
+      let e = same-true (k .mac (take 496 b ++ tail)) (drop 496 b) (m .check-right) in
+      sym (take-append-drop 496 b) ∙ ap₂ _++_ (sym front-is) (sym e ∙ ap (λ (x : List ℕ). k .mac (x ++ tail)) (sym front-is))

@@ -1,0 +1,20 @@
+use Rattle.schedule.specs.Schedule.{rCon}
+use borrow.Author.Needs.{needs}
+use Rattle.schedule.proofs.rcon.Statement.{statement}
+use Rattle.schedule.proofs.rcon.Tie as tie
+
+sub-power-of-x : tie.Need-sub-power-of-x
+sub-power-of-x c = search needs
+
+power-of-x-requires : tie.Need-power-of-x-requires
+power-of-x-requires c κs = search needs
+
+join-requires : tie.Need-join-requires
+join-requires c κs = search needs
+
+returns : tie.Need-returns
+unfolding rCon
+returns c = cc
+
+pub rcon-spec : {M : Type 1} → statement M
+rcon-spec = tie.close (tie.spec sub-power-of-x power-of-x-requires join-requires returns)
