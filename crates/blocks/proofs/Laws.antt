@@ -1,18 +1,18 @@
 -- A block by its bytes. Assumes nothing.
-use mathlib.Core.Path.{_≡_, refl, ap₂, _∙_}
+use mathlib.Core.Path.{_≡_, refl, ap, ap₂, _∙_}
 use mathlib.Core.Bool.{Bool, true, false, _&&_}
-use mathlib.Core.List.{List, [], _∷_}
-use Prim.Native.Nat.{ℕ, zero, suc, _+_, _≤_, _<_}
+use mathlib.Core.List.{List, [], _∷_, _++_}
+use Prim.Native.Nat.{ℕ, zero, suc, _+_, _-_, _≤_, _<_}
 use native.Mathlib.Omega.{arith}
 use borrow.Author.Tests.{le-leb, eq-eqb, ne-eqb, eqb-true}
 use lib.Dec.{eqb}
-use lib.ListN.{length, getD, take, drop, length-drop, drop-of-length-le}
-use lib.Seq.{paste, getD-take, getD-drop, length-take-le, drop-cons}
-use Rattle.octets.specs.Octets.{xor, tabulate, Bytes, Octets, same}
+use lib.ListN.{length, getD, take, drop, replicate, length-drop, length-replicate, drop-of-length-le}
+use lib.Seq.{paste, getD-take, getD-drop, length-take-le, take-length, drop-cons}
+use Rattle.octets.specs.Octets.{xor, tabulate, padTo, over, Bytes, Octets, same}
 use Rattle.octets.specs.Blocks.{_⊕_}
 use Rattle.octets.proofs.Fill.{is-tabulate}
 use Rattle.octets.proofs.Blocks.{⊕-length, take-octets, drop-bytes}
-use Rattle.blocks.specs.Blocks.{blockAt, blockPut}
+use Rattle.blocks.specs.Blocks.{blockAt, blockPut, copied}
 
 pub part-tabulate : (s : List ℕ) (at : ℕ) → at + 16 ≤ length s → take 16 (drop at s) ≡ tabulate 16 (λ k. getD s (at + k) 0)
 part-tabulate s at h =
@@ -72,3 +72,22 @@ same-true (x ∷ a) (y ∷ b) e = go (eqb x y) refl e (same-true a b)
 pub same-refl : (a : List ℕ) → same a a ≡ true
 same-refl [] = refl
 same-refl (x ∷ a) = rw (eq-eqb x x refl) (same-refl a)
+
+pub copied-fits : (s : List ℕ) (at : ℕ) (w : List ℕ) → at + length s ≤ length w → copied s at w ≡ paste w at s (length s)
+unfolding copied
+copied-fits s at w h = rw (le-leb (at + length s) (length w) h)
+
+-- a list put in front of another
+pub paste-front : (out s : List ℕ) → paste out 0 s (length s) ≡ over s out
+paste-front out s = let e : 0 + length s ≡ length s = omega arith in rw e (ap (λ (x : List ℕ). x ++ drop (length s) out) (take-length s))
+
+pub drop-zeros : (k n : ℕ) → drop {A = ℕ} k (replicate n 0) ≡ replicate (n - k) 0
+drop-zeros zero n = let e : n - 0 ≡ n = omega arith in rw e
+drop-zeros (suc k) zero = let e : 0 - suc k ≡ 0 = omega arith in rw e
+drop-zeros (suc k) (suc n) = let e : suc n - suc k ≡ n - k = omega arith in drop-zeros k n ∙ rw e
+
+-- a list put in front of zeros
+pub copied-zeros : (n : ℕ) (s : List ℕ) → length s ≤ n → copied s 0 (replicate n 0) ≡ padTo n s
+unfolding padTo
+copied-zeros n s h =
+    copied-fits s 0 (replicate n 0) (omega (arith, length-replicate {A = ℕ} n 0)) ∙ paste-front (replicate n 0) s ∙ ap (s ++_) (drop-zeros (length s) n)

@@ -1,17 +1,18 @@
-// Blocks of 16 bytes by value: out of a slice, into a slice, their sum, and whether two are the same.
+// Blocks of 16 bytes by value: out of a slice, into a slice, their sum, and whether two are the same; and bytes copied from slice to slice.
 ghost use mathlib.Core.Path.{_≡_};
 ghost use Prim.Native.Nat.{_+_, _≤_};
 ghost use lib.ListN.{length, take, drop};
 ghost use lib.Seq.{paste};
 ghost use Rattle.octets.specs.Blocks.{_⊕_};
-ghost use Rattle.blocks.specs.Blocks.{fits, blockAt, blockPut};
+ghost use Rattle.blocks.specs.Blocks.{blockAt, blockPut, copied};
+ghost use lib.Dec.{leb};
 ghost use Rattle.octets.specs.Octets.{same};
 
 // The 16 bytes of s from a place on; zeros where s ends before.
 pub fn load(s: &[u8], at: usize) -> [u8; 16]
     ensures { λ r. ⌜ r ≡ blockAt (now (s .entry)) at ⌝ }
 {
-    if fits_in(s.len(), at) {
+    if has_room(s.len(), at, 16) {
         return get(s, at);
     }
     [0u8; 16]
@@ -21,8 +22,17 @@ pub fn load(s: &[u8], at: usize) -> [u8; 16]
 pub fn store(s: &mut [u8], at: usize, block: [u8; 16])
     ensures { λ _. ⌜ now (s .exit) ≡ blockPut (now (s .entry)) at block ⌝ }
 {
-    if fits_in(s.len(), at) {
+    if has_room(s.len(), at, 16) {
         put(s, at, block);
+    }
+}
+
+// Puts the whole of s into w from a place on; leaves w as it is where it does not fit.
+pub fn copy(s: &[u8], w: &mut [u8], at: usize)
+    ensures { λ _. ⌜ now (w .exit) ≡ copied (now (s .entry)) at (now (w .entry)) ⌝ }
+{
+    if has_room(w.len(), at, s.len()) {
+        put_all(s, w, at);
     }
 }
 
@@ -68,14 +78,23 @@ fn put(s: &mut [u8], at: usize, block: [u8; 16])
     }
 }
 
-// Asked so that no sum can wrap.
-fn fits_in(length: usize, at: usize) -> bool
-    ensures { λ r. ⌜ r ≡ fits length at ⌝ }
+fn put_all(s: &[u8], w: &mut [u8], at: usize)
+    requires { ⌜ at + length (now s) ≤ length (now w) ⌝ }
+    ensures { λ _. ⌜ now (w .exit) ≡ paste (now (w .entry)) at (now (s .entry)) (length (now (s .entry))) ⌝ }
 {
-    if length < 16 {
+    for k in 0..s.len() {
+        w[at + k] = s[k];
+    }
+}
+
+// Whether something of this length has n bytes from a place on, asked so that no sum can wrap.
+fn has_room(length: usize, at: usize, n: usize) -> bool
+    ensures { λ r. ⌜ r ≡ leb (at + n) length ⌝ }
+{
+    if length < n {
         return false;
     }
-    if length - 16 < at {
+    if length - n < at {
         return false;
     }
     true

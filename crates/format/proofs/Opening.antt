@@ -8,7 +8,6 @@ use borrow.Author.Tests.{eq-eqb, ne-eqb, le-leb, lt-leb, leb-true, leb-false, no
 use lib.Dec.{eqb, leb}
 use lib.ListN.{length, getD, take, drop, length-drop, drop-of-length-le}
 use lib.Seq.{take-add, take-take, drop-at, drop-cons, drop-drop, drop-append-le, length-take-le}
-use Rattle.octets.specs.Octets.{over}
 use Rattle.octets.specs.Blocks.{_⊕_, BlockCipher}
 use Rattle.blocks.specs.Blocks.{blockAt}
 use Rattle.blocks.proofs.Laws.{block-at}

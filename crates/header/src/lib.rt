@@ -1,5 +1,6 @@
 // The header of a block of an image: its bytes, and the tests that a reader makes of it.
 use words::join;
+use words::word_bytes;
 ghost use mathlib.Core.Path.{_≡_};
 ghost use mathlib.Core.Bool.{_&&_, _||_, not};
 ghost use Prim.Native.Nat.{_+_, _*_, _/_, _%_};
@@ -101,24 +102,24 @@ pub fn head_of(first: [u8; 16]) -> Head
 pub fn head_bytes(head: Head) -> [u8; 16]
     ensures { λ r. ⌜ r ≡ headBytes head ⌝ }
 {
-    let number = head.number;
-    let count = head.count;
-    let release = head.release;
+    let number = word_bytes(head.number);
+    let count = word_bytes(head.count);
+    let release = word_bytes(head.release);
     let len = head.len;
     let reserved = head.reserved;
     [
-        (number / 16777216 % 256) as u8,
-        (number / 65536 % 256) as u8,
-        (number / 256 % 256) as u8,
-        (number % 256) as u8,
-        (count / 16777216 % 256) as u8,
-        (count / 65536 % 256) as u8,
-        (count / 256 % 256) as u8,
-        (count % 256) as u8,
-        (release / 16777216 % 256) as u8,
-        (release / 65536 % 256) as u8,
-        (release / 256 % 256) as u8,
-        (release % 256) as u8,
+        number[0],
+        number[1],
+        number[2],
+        number[3],
+        count[0],
+        count[1],
+        count[2],
+        count[3],
+        release[0],
+        release[1],
+        release[2],
+        release[3],
         (len / 256 % 256) as u8,
         (len % 256) as u8,
         (reserved / 256 % 256) as u8,

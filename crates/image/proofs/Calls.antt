@@ -14,27 +14,24 @@ use Rattle.sbox.specs.Sbox.{sBox}
 use Rattle.schedule.specs.Schedule.{scheduleOf, keyNumber}
 use Rattle.schedule.specs.declared.Expanded.{Expanded}
 use Rattle.schedule.specs.declared.KeyAnswer.the-variants.{Taken, KeyLength}
-use Rattle.lookups.specs.Lookups.{oneTable, inverseWords}
 use Rattle.tables.specs.Tables.{forwardTable, inverseTable}
 use Rattle.fips197.proofs.Aes.{key-lawful}
 use Rattle.header.specs.Rules.{countFits, lengthFits}
 use Rattle.format.specs.Edition.{one}
 use Rattle.format.specs.Sealed.{headFor}
-use Rattle.format.specs.Judge.{standing, ofEdition}
+use Rattle.format.specs.Judge.{standing}
 use Rattle.format.specs.Lent.{sealedOver}
 use Rattle.format.proofs.Agree.{sealed-same}
-use Rattle.image.specs.Turn.{Reading, readBlocks, cut}
+use Rattle.image.specs.Turn.{readBlocks, cut}
 use Rattle.image.specs.Calls.{bothTaken, writeRuled, writeAnswer, writeOutput, noSchedule, startWith, startOf, blocksBy, handled, whole, turnAfter, turnOf}
-use Rattle.image.specs.Lent.{sealedUnder, blocksRead}
+use Rattle.image.specs.Lent.{sealedUnder}
 use Rattle.image.specs.declared.WriteAnswer.{WriteAnswer}
 use Rattle.image.specs.declared.WriteAnswer.the-variants.{Written, WriteKey, WriteCount, WriteNumber, WriteLength, WriteRoom}
 use Rattle.image.specs.declared.Reader.{Reader}
 use Rattle.image.specs.declared.ReadStarted.{ReadStarted}
 use Rattle.image.specs.declared.Stop.the-variants.{Asked, Lent, Room}
 use Rattle.image.specs.declared.Turn.{Turn}
-use Rattle.image.specs.declared.turns.BlocksRead.{BlocksRead}
 use Rattle.image.proofs.WriteAnswer.{the-type}
-use Rattle.image.proofs.Agree.{ran-same}
 
 -- ---- a turn's own tests
 

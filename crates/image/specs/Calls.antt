@@ -1,7 +1,7 @@
 -- The calls: writing a block, and starting, turning and asking a reader. Assumes nothing: these are definitions.
 use Prim.Native.Nat.{ℕ, _*_, _/_, _%_, min}
 use mathlib.Core.Bool.{Bool, _&&_, not}
-use mathlib.Core.List.{List, []}
+use mathlib.Core.List.{List}
 use lib.Dec.{eqb, ltb, leb}
 use lib.ListN.{length, replicate}
 use Rattle.octets.specs.Octets.{choose, over}
@@ -16,7 +16,7 @@ use Rattle.sp800_38b.specs.Cmac.{cmac}
 use Rattle.format.specs.Lent.{usable}
 use Rattle.format.specs.declared.Rounds.{Rounds}
 use Rattle.header.specs.Layout.{bodySize, blockSize}
-use Rattle.header.specs.Rules.{done, countFits, lengthFits, reasonNumber, reasonValue}
+use Rattle.header.specs.Rules.{done, countFits, lengthFits, reasonNumber}
 use Rattle.format.specs.Edition.{one, noCheck}
 use Rattle.format.specs.Sealed.{blockFor}
 use Rattle.format.specs.Judge.{Keys, begun, standing, BlockReader, ofEdition}
@@ -125,20 +125,13 @@ turnOf r lent asked out =
     (choose (ltb (length out) (handled lent asked * bodySize)) (whole r Room, out)
     (turnAfter r (readingOf r lent asked), over (readingOf r lent asked .out) out)))
 
--- the number of each way to stop (docs/REFUSALS.md), and what a stop at a block names: its place, and the value its reason holds
+-- the number of each way to stop (docs/REFUSALS.md)
 abbrev pub stopNumber : Stop → ℕ
 stopNumber End = 0
 stopNumber Asked = 5
 stopNumber Lent = 6
 stopNumber Room = 4
 stopNumber (At place reason) = reasonNumber reason
-
-abbrev pub stopValue : Stop → List ℕ
-stopValue (At place reason) = reasonValue reason
-stopValue End = []
-stopValue Asked = []
-stopValue Lent = []
-stopValue Room = []
 
 -- ---- completion
 

@@ -7,7 +7,7 @@ use lib.ListN.{length, take, drop, replicate}
 use lib.Seq.{length-take-le}
 use Rattle.octets.specs.Octets.{Bytes, Octets}
 use Rattle.octets.specs.Blocks.{_⊕_}
-use Rattle.octets.proofs.Xor.{xor-assoc, xor-comm, xor-undo, xor-lt}
+use Rattle.octets.proofs.Xor.{xor-comm, xor-undo, xor-lt}
 
 pub ⊕-comm : (a b : List ℕ) → a ⊕ b ≡ b ⊕ a
 ⊕-comm [] [] = refl

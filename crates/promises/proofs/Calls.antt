@@ -1,15 +1,18 @@
 -- Demand 1 for the cipher and its blocks: every public call asks nothing of its caller, and any two outcomes that its contract
--- allows agree; the one that is lent memory to write leaves it as it was where the block has no room. Assumes nothing.
+-- allows agree; those that are lent memory to write leave it as it was where there is no room. Assumes nothing.
 use mathlib.Core.Path.{_≡_, sym, _∙_}
 use mathlib.Core.Bool.{false}
 use denote.Ref.{now}
 use lib.ListN.{length}
-use Rattle.blocks.specs.Blocks.{fits, blockPut}
+use Prim.Native.Nat.{_+_}
+use lib.Dec.{leb}
+use Rattle.blocks.specs.Blocks.{fits, blockPut, copied}
 use Rattle.field.proofs.double.Reads as double
 use Rattle.field.proofs.product.Reads as product
 use Rattle.sbox.proofs.table.Reads as table
 use Rattle.sbox.proofs.inv_table.Reads as inv-table
 use Rattle.blocks.proofs.load.Reads as load
+use Rattle.blocks.proofs.copy.Reads as copy
 use Rattle.blocks.proofs.store.Reads as store
 use Rattle.blocks.proofs.xor.Reads as xor
 use Rattle.words.proofs.join.Reads as join
@@ -230,6 +233,17 @@ xor-asks-nothing κs a = tt
 
 pub xor-determined : (κs : _) (a : _) (r r′ : _) (s s′ : _) → xor.Post κs a r s → xor.Post κs a r′ s′ → r ≡ r′
 xor-determined κs a r r′ s s′ p q = p ∙ sym q
+
+pub copy-asks-nothing : (κs : _) (a : _) → copy.Asked κs a
+copy-asks-nothing κs a = tt
+
+pub copy-determined : (κs : _) (a : _) (r r′ : _) (s s′ : _) → copy.Post κs a r s → copy.Post κs a r′ s′ → now (s .1 .0) ≡ now (s′ .1 .0)
+copy-determined κs a r r′ s s′ p q = p ∙ sym q
+
+-- what does not fit is not written
+pub copy-refused-keeps : (κs : _) (a : _) (r : _) (s : _) → copy.Post κs a r s → leb (a .1 .1 .0 + length (now (a .0))) (length (now (a .1 .0))) ≡ false → now (s .1 .0) ≡ now (a .1 .0)
+unfolding copied
+copy-refused-keeps κs a r s p e = p ∙ rw e
 
 pub store-asks-nothing : (κs : _) (a : _) → store.Asked κs a
 store-asks-nothing κs a = tt

@@ -6,7 +6,7 @@ use states::mix_columns;
 use states::sub_shift;
 use states::sub_shift_mix;
 ghost use mathlib.Core.Path.{_≡_};
-ghost use Prim.Native.Nat.{_-_, _*_, _<_};
+ghost use Prim.Native.Nat.{_-_, _<_};
 ghost use Rattle.octets.specs.Octets.{entry};
 ghost use Rattle.lookups.specs.Lookups.{addKeyWords, tableRounds, tableForth, tableBack, mixedEach};
 ghost use Rattle.rounds.specs.Pairs.{bothStates};

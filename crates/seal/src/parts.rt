@@ -1,4 +1,5 @@
-// The parts of a block that is sealed: its check, its fill, and where they go.
+// The parts of a block that is sealed: its check, and where each part goes.
+use blocks::copy;
 use blocks::store;
 use format::Rounds;
 use header::Head;
@@ -10,7 +11,7 @@ ghost use mathlib.Core.Path.{_≡_};
 ghost use mathlib.Core.List.{_++_};
 ghost use Prim.Native.Nat.{_≤_};
 ghost use lib.ListN.{length};
-ghost use Rattle.octets.specs.Octets.{padTo, over};
+ghost use Rattle.octets.specs.Octets.{over};
 ghost use Rattle.lookups.specs.Lookups.{oneTable};
 ghost use Rattle.format.specs.Sealed.{sealed};
 ghost use Rattle.format.specs.Lent.{lentMac};
@@ -33,18 +34,6 @@ pub fn check_of(
         .closed(forth, cwords, rounds, key1, key2)
 }
 
-// The payload, then zeros.
-fn filled(payload: &[u8]) -> [u8; 480]
-    requires { ⌜ length (now payload) ≤ 480 ⌝ }
-    ensures { λ r. ⌜ r ≡ padTo 480 (now (payload .entry)) ⌝ }
-{
-    let mut plain = [0u8; 480];
-    for i in 0..payload.len() {
-        plain[i] = payload[i];
-    }
-    plain
-}
-
 pub fn seal_into(
     forth: &[u32; 256],
     ewords: &[u32; 60],
@@ -62,7 +51,8 @@ pub fn seal_into(
 {
     let first = head_bytes(head);
     let iv = encrypt_block(forth, ewords, rounds.enc, first);
-    let plain = filled(payload);
+    let mut plain = [0u8; 480];
+    copy(payload, &mut plain, 0);
     store(output, 0, first);
     pieces::run(
         forth,

@@ -2,10 +2,11 @@
 use mathlib.Core.Path.{_≡_, refl, sym, ap, ap₂, _∙_}
 use mathlib.Core.Bool.{Bool, true, false}
 use mathlib.Core.List.{List, _++_}
-use Prim.Native.Nat.{ℕ, zero, suc, _+_, _-_, _/_, _≤_}
+use Prim.Native.Nat.{ℕ, _+_, _-_, _/_, _≤_}
 use native.Mathlib.Omega.{arith}
 use lib.ListN.{length, take, drop, replicate, length-append, length-drop}
 use lib.Seq.{paste, take-at, drop-at, drop-drop, take-append-le, drop-append-le, take-length}
+use Rattle.blocks.proofs.Laws.{paste-front, drop-zeros}
 use Rattle.octets.specs.Octets.{padTo, same, over}
 use Rattle.octets.specs.Blocks.{BlockCipher}
 use Rattle.wrap.specs.Wrap.{initial, register, passes, wrapped, unpasses, unwrapped}
@@ -13,9 +14,6 @@ use Rattle.wrap.specs.Lent.{openedOver}
 use Rattle.wrap.specs.Calls.{opening}
 use Rattle.wrap.specs.declared.WrapAnswer.the-variants.{WrapDone, WrongInitial}
 use Rattle.wrap.proofs.Places.{drop-past}
-
-paste-front : (out s : List ℕ) → paste out 0 s (length s) ≡ over s out
-paste-front out s = let e : 0 + length s ≡ length s = omega arith in rw e (ap (λ (x : List ℕ). x ++ drop (length s) out) (take-length s))
 
 -- ---- wrapping
 
@@ -45,11 +43,6 @@ module _ (c : BlockCipher) (p out : List ℕ) (m : ℕ) (em : m ≡ length p + 8
       e4 ∙ ap (mid ++_) (rest ∙ ap (λ (x : ℕ). drop x out) n) ∙ ap (λ (x : List ℕ). over x out) (e3 ∙ ap (passes c (length p / 8) 6) part)
 
 -- ---- unwrapping
-
-drop-zeros : (k n : ℕ) → drop {A = ℕ} k (replicate n 0) ≡ replicate (n - k) 0
-drop-zeros zero n = let e : n - 0 ≡ n = omega arith in rw e
-drop-zeros (suc k) zero = let e : 0 - suc k ≡ 0 = omega arith in rw e
-drop-zeros (suc k) (suc n) = let e : suc n - suc k ≡ n - k = omega arith in drop-zeros k n ∙ rw e
 
 module _ (c : BlockCipher) (d : List ℕ) (m : ℕ) (em : m ≡ length d) (w1 mid w2 : List ℕ) (e1 : w1 ≡ paste (replicate 72 0) 0 d (length d))
     (e2 : mid ≡ unpasses c (length d / 8 - 1) 6 (take m w1)) (l2 : length mid ≡ length (take m w1)) (e3 : w2 ≡ mid ++ drop m w1) where

@@ -2,10 +2,10 @@
 mod registers;
 mod steps;
 
-use crate::registers::copy;
 use crate::registers::is_initial;
 use crate::steps::passes;
 use crate::steps::unpasses;
+use blocks::copy;
 use cipher::inverse_words;
 use schedule::KeyAnswer;
 use schedule::KeySchedule;

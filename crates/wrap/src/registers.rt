@@ -50,16 +50,6 @@ fn put_half(w: &mut [u8], at: usize, block: [u8; 16], from: usize)
     }
 }
 
-// Puts the whole of s into w from a place on.
-pub fn copy(s: &[u8], w: &mut [u8], at: usize)
-    requires { ⌜ at + length (now s) ≤ length (now w) ⌝ }
-    ensures { λ _. ⌜ now (w .exit) ≡ paste (now (w .entry)) at (now (s .entry)) (length (now (s .entry))) ⌝ }
-{
-    for k in 0..s.len() {
-        w[at + k] = s[k];
-    }
-}
-
 // Whether A is the initial value, in all its eight bytes.
 pub fn is_initial(w: &[u8]) -> bool
     requires { ⌜ 8 ≤ length (now w) ⌝ }

@@ -1,6 +1,4 @@
 use mathlib.Core.Path.{ap, _∙_}
-use mathlib.Core.List.{List}
-use Prim.Native.Nat.{ℕ}
 use Rattle.octets.specs.Octets.{Bytes, over}
 use Rattle.format.specs.Judge.{standing}
 use Rattle.image.specs.Turn.{Reading}

@@ -1,3 +1,6 @@
+use Rattle.blocks.proofs.Laws.{copied-fits}
+use native.Mathlib.Omega.{arith}
+use mathlib.Core.Path.{_∙_}
 use borrow.Author.Tests.{not-true, not-false}
 use Rattle.lookups.specs.Lookups.{oneTable}
 use Rattle.wrap.proofs.Building.{opened-wrong, opened-right}
@@ -42,7 +45,7 @@ returns-2 c =
     let i = c .before .before .before .before .before .before in
     let s = c .before .before .before .before .before .before .before .before .before .before .before .before in
     let a = s .args in
-    opened-right (oneTable (a .table .now) (a .words .now) (a .rounds)) (a .given .now) (a .output .now) (o .result) (s .pre .0) (o .ensures .0) (o .ensures .1) _ (i .before .is-initial .ensures) (not-false _ (i .if1 .left)) _ (c .before .before .copy .ensures)
+    opened-right (oneTable (a .table .now) (a .words .now) (a .rounds)) (a .given .now) (a .output .now) (o .result) (s .pre .0) (o .ensures .0) (o .ensures .1) _ (i .before .is-initial .ensures) (not-false _ (i .if1 .left)) _ (c .before .before .copy .ensures ∙ copied-fits _ 0 (a .output .now) (omega (arith, s .pre)))
 
 pub unwrap-into-spec : {M : Type 1} → statement M
 unwrap-into-spec =

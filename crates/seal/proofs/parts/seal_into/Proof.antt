@@ -7,6 +7,9 @@ use lib.ListN.{length, take, drop}
 use Prim.Native.Nat.{ℕ}
 use mathlib.Core.List.{List}
 use Rattle.blocks.specs.Blocks.{blockPut}
+use Rattle.blocks.proofs.Laws.{copied-zeros}
+use Rattle.octets.specs.Octets.{padTo}
+use Rattle.octets.proofs.Fill.{length-padTo}
 use mathlib.Core.Path.{_≡_, refl, sym, ap, _∙_}
 use native.Mathlib.Omega.{arith}
 use borrow.Author.Needs.{needs}
@@ -19,8 +22,11 @@ head-bytes-requires c κs = search needs
 encrypt-block-requires : tie.Need-encrypt-block-requires
 encrypt-block-requires c κs = search needs
 
-filled-requires : tie.Need-filled-requires
-filled-requires c κs = search needs
+slice-aggregate-copy : tie.Need-slice-aggregate-copy
+slice-aggregate-copy c = search needs
+
+copy-requires : tie.Need-copy-requires
+copy-requires c κs = search needs
 
 store-requires : tie.Need-store-requires
 store-requires c κs = search needs
@@ -64,17 +70,18 @@ returns c =
     let ck = st2 .before .before in
     let rn = ck .before .before .before .before .before in
     let st = rn .before .before .before .before .before in
-    let fl = st .before .before in
-    let s = fl .before .before .before .before .before .before in
+    let cp = st .before .before .before in
+    let s = cp .before .before .before .before .before .before .before in
     let a = s .args in
-    let plain = fl .filled .result in
+    let plain = cp .copy .last .1 .0 in
+    let filled : plain ≡ padTo 480 (a .payload .now) = cp .copy .ensures ∙ copied-zeros 480 (a .payload .now) (s .pre .0) in
     let o1 = st .store .last .0 in
-    let first = fl .before .before .head-bytes .ensures in
-    let size : length plain ≡ 480 = fl .filled .ok .1 .0 .1 in
+    let first = cp .before .before .before .head-bytes .ensures in
+    let size : length plain ≡ 480 = ap length filled ∙ length-padTo 480 (a .payload .now) (s .pre .0) in
     let room : length (take 480 (drop 16 o1)) ≡ 480 = middle-size (a .head) (a .output .now) o1 (s .pre .1) (st .store .ensures ∙ ap (blockPut (a .output .now) 0) first) in
     let w = through-whole (oneTable (a .forth .now) (a .ewords .now) (a .rounds .enc)) CbcEncrypt _ plain (take 480 (drop 16 o1)) (omega arith) (size ∙ sym room) in
     seal-by (oneTable (a .forth .now) (a .ewords .now) (a .rounds .enc)) (lentMac (a .forth .now) (a .cwords .now) (a .rounds .chk) (a .key1 .now) (a .key2 .now)) (a .tail .now) (a .head) (a .payload .now) (a .output .now) (s .pre .0) (s .pre .1)
-    _ _ _ _ _ _ _ _ first (fl .before .encrypt-block .ensures) (fl .filled .ensures) (st .store .ensures) (ap (λ (t : List ℕ × List ℕ). t .1) (rn .run .ensures ∙ w)) (rn .run .kept .1 .1 .1 .1 .1 .1 .0 ∙ room) refl
+    _ _ _ _ _ _ _ _ first (cp .before .before .encrypt-block .ensures) filled (st .store .ensures) (ap (λ (t : List ℕ × List ℕ). t .1) (rn .run .ensures ∙ w)) (rn .run .kept .1 .1 .1 .1 .1 .1 .0 ∙ room) refl
     (ck .check-of .ensures) (ck .check-of .ok .1 .0 .1) (st2 .store2 .ensures)
 
 pub seal-into-spec : {M : Type 1} → statement M
@@ -83,7 +90,8 @@ seal-into-spec =
     (tie.spec
     head-bytes-requires
     encrypt-block-requires
-    filled-requires
+    slice-aggregate-copy
+    copy-requires
     store-requires
     slice-aggregate-run
     sub-run

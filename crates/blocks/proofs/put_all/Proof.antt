@@ -4,8 +4,8 @@ use lib.ListN.{length, length-set}
 use lib.Seq.{paste, paste-zero, paste-suc}
 use borrow.Author.Needs.{needs}
 use native.Mathlib.Omega.{arith}
-use Rattle.wrap.proofs.registers.copy.Statement.{statement}
-use Rattle.wrap.proofs.registers.copy.Tie as tie
+use Rattle.blocks.proofs.put_all.Statement.{statement}
+use Rattle.blocks.proofs.put_all.Tie as tie
 
 abbrev Inv-loop : tie.InvT-loop
 Inv-loop s w₀ at k₀ k-end w k = (k ≤ length s) × (k-end ≡ length s) × (length w ≡ length w₀) × (w ≡ paste w₀ at s k)
@@ -49,8 +49,8 @@ returns c =
     let e : l .k ≡ length (a .s .now) = omega arith in
     l .inv .3 ∙ ap (paste (a .w .now) (a .at) (a .s .now)) e
 
-pub copy-spec : {M : Type 1} → statement M
-copy-spec =
+pub put-all-spec : {M : Type 1} → statement M
+put-all-spec =
     tie.close
     (tie.spec
     Inv-loop
