@@ -40,7 +40,7 @@ enum {
     DOCK_DONE = 0,
     DOCK_KEY_LENGTH = 1,          // a key is not 16, 24 or 32 bytes
     DOCK_IV_LENGTH = 2,           // the IV is not empty in ECB, or not 16 bytes in another mode
-    DOCK_INPUT_LENGTH = 3,        // the input of a mode is not a multiple of 16 bytes
+    DOCK_INPUT_LENGTH = 3,        // the input of ECB, CBC or CFB is not a multiple of 16 bytes
     DOCK_OUTPUT_SHORT = 4,        // the output is too short for the result
     DOCK_ASKED_NUMBER = 5,        // the number of blocks asked for is not 1 to 128
     DOCK_LENT_LENGTH = 6,         // the bytes lent are not whole blocks of 512
@@ -98,9 +98,9 @@ dock_block_answer dock_decrypt(const uint8_t *key, size_t key_length, dock_block
 
 // ---- The modes of SP 800-38A
 
-// Each encrypts or decrypts the input, a multiple of 16 bytes or none at all, into the front of the output, which has at least the
-// input's length. The IV is empty in ECB and 16 bytes in the other modes; CFB is that with segments of 16 bytes. The answer is 0 or
-// the first that applies of 1, 2, 3, 4. There is no padding.
+// Each encrypts or decrypts the input into the front of the output, which has at least the input's length. ECB, CBC and CFB take a
+// multiple of 16 bytes, or none at all; OFB takes any length. The IV is empty in ECB and 16 bytes in the other modes; CFB is that
+// with segments of 16 bytes. The answer is 0 or the first that applies of 1, 2, 3, 4; OFB never gives 3. There is no padding.
 uint32_t dock_ecb_encrypt(const uint8_t *key, size_t key_length, const uint8_t *iv, size_t iv_length,
                           const uint8_t *input, size_t input_length, uint8_t *output, size_t output_length);
 uint32_t dock_ecb_decrypt(const uint8_t *key, size_t key_length, const uint8_t *iv, size_t iv_length,

@@ -6,6 +6,7 @@ from lines import Book, counting, filler, h, laid_over
 from sources import cavs, sp800_38a
 
 MODES = ("ecb", "cbc", "cfb", "ofb")
+WHOLE_ONLY = ("ecb", "cbc", "cfb")
 WAYS = ("encrypt", "decrypt")
 WRONG_KEY_SIZES = (0, 15, 17, 23, 25, 31, 33, 64)
 KEY = counting(16)
@@ -123,10 +124,11 @@ def single_refusals(book):
             refused(book, 2, mode, way, KEY, iv, counting(16), filler(16))
 
 
-def refusals_3(book, modes, what):
+def refusals_3(book):
     """Inputs that are no whole pieces, in outputs that would hold them."""
-    book.group(what, "document 01, refusal 3")
-    for mode in modes:
+    book.group("refusal 3, ECB, CBC and CFB: inputs of 1, 8, 15, 17, 24, 31, 33 and 47 bytes",
+               "document 01, refusal 3; document 02, E1")
+    for mode in WHOLE_ONLY:
         for way in WAYS:
             for size in (1, 8, 15, 17, 24, 31, 33, 47):
                 refused(book, 3, mode, way, KEY, right_iv(mode), counting(size), filler(48))
@@ -161,10 +163,10 @@ def order_1_2(book):
         refused(book, 1, mode, way, bad_key, bad, odd, short)
 
 
-def order_3_4(book, modes, what):
+def order_3_4(book):
     """Lines that earn 3 and 4: 3 is given."""
-    book.group(what, "document 01, orders")
-    for mode in modes:
+    book.group("order: 3 before 4, ECB, CBC and CFB", "document 01, orders")
+    for mode in WHOLE_ONLY:
         for way in WAYS:
             for out in (0, 15, 16):
                 refused(book, 3, mode, way, KEY, right_iv(mode), counting(17), filler(out))
@@ -207,20 +209,16 @@ def main(root, folder):
                 "copied from the named source or follow from the rules of document 01 and docs/CONSOLE.md.")
     book.remark("SP 800-38A prints each example both ways with the same values. Crypto++ quotes the encryptions; the "
                 "decryptions are the same values changed over.")
-    book.remark("Document 02's E1 takes refusal 3 from OFB: the two groups that say so in the table hold until then. "
-                "E4 and E7 may change the form of the OFB, CBC and CFB lines.")
+    book.remark("OFB takes inputs of any length: the lines for those are in ofb.py.")
     standard(book, root)
     known_answers(book, root)
     multi_block(book, root)
     empty_input(book)
     single_refusals(book)
-    whole_only = ("ecb", "cbc", "cfb")
-    refusals_3(book, whole_only, "refusal 3, ECB, CBC and CFB: inputs of 1, 8, 15, 17, 24, 31, 33 and 47 bytes")
-    refusals_3(book, ("ofb",), "refusal 3, OFB: the same sizes (until E1)")
+    refusals_3(book)
     refusals_4(book)
     order_1_2(book)
-    order_3_4(book, whole_only, "order: 3 before 4, ECB, CBC and CFB")
-    order_3_4(book, ("ofb",), "order: 3 before 4, OFB (until E1)")
+    order_3_4(book)
     bad_lines(book)
     long_lines(book, root)
     book.write(folder)

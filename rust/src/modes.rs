@@ -1,4 +1,4 @@
-//! The modes of SP 800-38A on whole pieces of 16 bytes.
+//! The modes of SP 800-38A: ECB, CBC and CFB on whole pieces of 16 bytes, OFB on any length.
 
 use crate::refusal::Refusal;
 use crate::sys;
@@ -34,8 +34,9 @@ fn call_of(mode: Mode, way: Way) -> sys::ModeCall {
     }
 }
 
-/// Encrypts or decrypts the input, a multiple of 16 bytes or none, into the front of the output, which has at least its length.
-/// The IV is empty in ECB and 16 bytes in the other modes. Refused by the first that applies of 1, 2, 3, 4.
+/// Encrypts or decrypts the input into the front of the output, which has at least its length. The input is a multiple of 16 bytes
+/// or none, in OFB of any length. The IV is empty in ECB and 16 bytes in the other modes. Refused by the first that applies of
+/// 1, 2, 3, 4; OFB never by 3.
 pub fn apply(
     mode: Mode,
     way: Way,

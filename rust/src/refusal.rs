@@ -10,7 +10,7 @@ pub enum Refusal {
     KeyLength,
     /// 2: the IV is not empty in ECB, or not 16 bytes in another mode.
     IvLength,
-    /// 3: the input of a mode is not a multiple of 16 bytes.
+    /// 3: the input of ECB, CBC or CFB is not a multiple of 16 bytes.
     InputLength,
     /// 4: the output is too short for the result.
     OutputShort,

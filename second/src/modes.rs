@@ -1,4 +1,4 @@
-//! The modes of SP 800-38A on whole pieces of 16 bytes: ECB, CBC, CFB with 16-byte segments, OFB.
+//! The modes of SP 800-38A: ECB, CBC and CFB with 16-byte segments on whole pieces of 16 bytes, OFB on any length.
 
 use crate::aes::{Block, KeySchedule};
 use crate::refusal::Refusal;
@@ -28,9 +28,9 @@ pub fn run(
 ) -> Result<(), Refusal> {
     let key = KeySchedule::new(key)?;
     let iv = starting_vector(mode, iv)?;
-    let pieces = whole_pieces(input)?;
+    let result = transform(mode, way, &key, iv, input)?;
     let room = output.get_mut(..input.len()).ok_or(Refusal::OutputShort)?;
-    room.copy_from_slice(transform(mode, way, &key, iv, pieces).as_flattened());
+    room.copy_from_slice(&result);
     Ok(())
 }
 
@@ -49,16 +49,24 @@ fn whole_pieces(input: &[u8]) -> Result<&[Block], Refusal> {
     }
 }
 
-fn transform(mode: Mode, way: Way, key: &KeySchedule, iv: Block, pieces: &[Block]) -> Vec<Block> {
-    match (mode, way) {
-        (Mode::Ecb, Way::Encrypt) => pieces.iter().map(|piece| key.encrypt(piece)).collect(),
-        (Mode::Ecb, Way::Decrypt) => pieces.iter().map(|piece| key.decrypt(piece)).collect(),
-        (Mode::Cbc, Way::Encrypt) => cbc_encrypt(key, iv, pieces),
-        (Mode::Cbc, Way::Decrypt) => cbc_decrypt(key, iv, pieces),
-        (Mode::Cfb, Way::Encrypt) => cfb_encrypt(key, iv, pieces),
-        (Mode::Cfb, Way::Decrypt) => cfb_decrypt(key, iv, pieces),
-        (Mode::Ofb, _) => ofb(key, iv, pieces),
-    }
+fn transform(
+    mode: Mode,
+    way: Way,
+    key: &KeySchedule,
+    iv: Block,
+    input: &[u8],
+) -> Result<Vec<u8>, Refusal> {
+    let pieces = whole_pieces(input);
+    let blocks: Vec<Block> = match (mode, way) {
+        (Mode::Ecb, Way::Encrypt) => pieces?.iter().map(|piece| key.encrypt(piece)).collect(),
+        (Mode::Ecb, Way::Decrypt) => pieces?.iter().map(|piece| key.decrypt(piece)).collect(),
+        (Mode::Cbc, Way::Encrypt) => cbc_encrypt(key, iv, pieces?),
+        (Mode::Cbc, Way::Decrypt) => cbc_decrypt(key, iv, pieces?),
+        (Mode::Cfb, Way::Encrypt) => cfb_encrypt(key, iv, pieces?),
+        (Mode::Cfb, Way::Decrypt) => cfb_decrypt(key, iv, pieces?),
+        (Mode::Ofb, _) => return Ok(ofb(key, iv, input)),
+    };
+    Ok(blocks.into_flattened())
 }
 
 pub fn cbc_encrypt(key: &KeySchedule, iv: Block, plain: &[Block]) -> Vec<Block> {
@@ -97,13 +105,15 @@ fn cfb_decrypt(key: &KeySchedule, iv: Block, sealed: &[Block]) -> Vec<Block> {
         .collect()
 }
 
-fn ofb(key: &KeySchedule, iv: Block, pieces: &[Block]) -> Vec<Block> {
+/// Of the last output block as many leading bytes are used as the input has left (6.4).
+fn ofb(key: &KeySchedule, iv: Block, input: &[u8]) -> Vec<u8> {
     let mut stream = iv;
-    let result = pieces.iter().map(|piece| {
+    let mut result = Vec::with_capacity(input.len());
+    for piece in input.chunks(stream.len()) {
         stream = key.encrypt(&stream);
-        xor(piece, &stream)
-    });
-    result.collect()
+        result.extend(piece.iter().zip(stream).map(|(byte, mask)| byte ^ mask));
+    }
+    result
 }
 
 pub fn xor(a: &Block, b: &Block) -> Block {
@@ -167,6 +177,36 @@ mod tests {
         both_ways(Mode::Ofb, KEYS[0], IV, two);
         both_ways(Mode::Ofb, KEYS[1], IV, "cdc80d6fddf18cab34c25909c99a4174");
         both_ways(Mode::Ofb, KEYS[2], IV, "dc7e84bfda79164b7ecd8486985d3860");
+    }
+
+    /// Appendix F.4 by its leading bytes: OFB adds them one by one.
+    #[test]
+    fn ofb_takes_any_length() {
+        let sealed = "3b3fd92eb72dad20333449f8e83cfb4a7789508d16918f03f53c52dac54ed825";
+        for length in 1..=32 {
+            both_ways(Mode::Ofb, KEYS[0], IV, &sealed[..2 * length]);
+        }
+    }
+
+    #[test]
+    fn a_short_piece_is_refused_but_in_ofb() {
+        for (mode, iv) in [(Mode::Ecb, 0), (Mode::Cbc, 16), (Mode::Cfb, 16)] {
+            let mut output = [0xaa; 17];
+            let (key, iv) = ([0; 16], vec![0; iv]);
+            let result = run(mode, Way::Decrypt, &key, &iv, &[0; 17], &mut output);
+            assert_eq!(result, Err(Refusal::InputLength));
+        }
+        let mut output = [0xaa; 16];
+        let result = run(
+            Mode::Ofb,
+            Way::Decrypt,
+            &[0; 16],
+            &[0; 16],
+            &[0; 17],
+            &mut output,
+        );
+        assert_eq!(result, Err(Refusal::OutputShort));
+        assert_eq!(output, [0xaa; 16]);
     }
 
     #[test]

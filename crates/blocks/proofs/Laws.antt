@@ -25,9 +25,9 @@ getD-sum (x ∷ a) [] k h l = absurd (omega arith)
 getD-sum (x ∷ a) (y ∷ b) zero h l = refl
 getD-sum (x ∷ a) (y ∷ b) (suc k) h l = getD-sum a b k (omega arith) (omega arith)
 
-pub sum-tabulate : (a b : List ℕ) → length a ≡ 16 → length b ≡ 16 → a ⊕ b ≡ tabulate 16 (λ k. xor (getD a k 0) (getD b k 0))
-sum-tabulate a b ha hb =
-    is-tabulate 16 (λ k. xor (getD a k 0) (getD b k 0)) (a ⊕ b) (⊕-length a b (omega arith) ∙ ha)
+pub sum-tabulate : (n : ℕ) (a b : List ℕ) → length a ≡ n → n ≤ length b → a ⊕ b ≡ tabulate n (λ k. xor (getD a k 0) (getD b k 0))
+sum-tabulate n a b ha hb =
+    is-tabulate n (λ k. xor (getD a k 0) (getD b k 0)) (a ⊕ b) (⊕-length a b (omega arith) ∙ ha)
     (λ k l. getD-sum a b k (omega arith) (omega arith))
 
 -- ---- where there is room

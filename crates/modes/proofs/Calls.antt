@@ -15,7 +15,7 @@ use Rattle.lookups.specs.Lookups.{tableCipher, inverseWords}
 use Rattle.tables.specs.Tables.{forwardTable, inverseTable}
 use Rattle.lookups.proofs.Lawful.{lent-agrees}
 use Rattle.fips197.proofs.Aes.{key-lawful}
-use Rattle.modes.specs.Calls.{judged, modeAnswer, modeOutput}
+use Rattle.modes.specs.Calls.{leftOver, judged, modeAnswer, modeOutput}
 use Rattle.sp800_38a.specs.Pieces.{pieceCount}
 use Rattle.sp800_38a.specs.Modes.{ivLength}
 use Rattle.pieces.specs.Runs.{runOver}
@@ -24,7 +24,7 @@ use Rattle.sp800_38a.specs.declared.Operation.{Operation}
 use Rattle.modes.specs.declared.ModeAnswer.{ModeAnswer}
 use Rattle.modes.specs.declared.ModeAnswer.the-variants.{Done, BadKey, BadIv, NotPieces, OutputShort}
 use Rattle.modes.proofs.ModeAnswer.{the-type}
-use Rattle.modes.proofs.Answers.{met}
+use Rattle.modes.proofs.Answers.{met, left-none}
 
 -- an answer that is not the first case leaves the output as it was
 pub refused-keeps : (a : ModeAnswer) (o : Operation) (key iv inp out : List ℕ)
@@ -37,7 +37,7 @@ refused-keeps OutputShort o key iv inp out h = refl
 
 -- e is the schedule that the call makes, r the answer
 module _ (o : Operation) (key iv inp out : List ℕ) (e : Expanded) (r : ModeAnswer) (pe : e ≡ scheduleOf sBox key)
-    (pr : r ≡ judged (keyNumber (e .answer)) (ivLength 16 o) (length iv) (length inp) (length out)) where
+    (pr : r ≡ judged (keyNumber (e .answer)) (ivLength 16 o) (length iv) (leftOver o (length inp)) (length inp) (length out)) where
   pub answered : r ≡ modeAnswer o key iv inp out
   unfolding modeAnswer
   answered = pr ∙ rw pe
@@ -47,9 +47,9 @@ module _ (o : Operation) (key iv inp out : List ℕ) (e : Expanded) (r : ModeAns
       → x ≡ modeOutput r o key iv inp out
   unfolding modeAnswer
   written b st x pb bi bs d po =
-      let f = met (keyNumber (scheduleOf sBox key .answer)) (ivLength 16 o) (length iv) (length inp) (length out) (sym answered ∙ d) in
+      let f = met (keyNumber (scheduleOf sBox key .answer)) (ivLength 16 o) (length iv) (leftOver o (length inp)) (length inp) (length out) (sym answered ∙ d) in
       let k = scheduleOf sBox key .schedule in
       let c = tableCipher forwardTable inverseTable (k .words) (inverseWords (k .words) (k .rounds)) (k .rounds) in
       let p : (st, x) ≡ runOver c o (blockAt iv 0) inp out = po ∙ rw (pb, pe) in
-      let q = through-mode c (aesOf key) (lent-agrees (k .words) (k .rounds)) (key-lawful key (f .key-taken)) o (blockAt iv 0) inp (iv-chain o iv (f .iv-right) bi) bs (f .pieces) out (f .room) in
+      let q = through-mode c (aesOf key) (lent-agrees (k .words) (k .rounds)) (key-lawful key (f .key-taken)) o (blockAt iv 0) inp (iv-chain o iv (f .iv-right) bi) bs (left-none o (length inp) (f .taken)) out (f .room) in
       ap (λ (t : List ℕ × List ℕ). t .1) (p ∙ q) ∙ rw (d, iv-same (aesOf key) iv (pieceCount 16 inp) inp o (f .iv-right))

@@ -7,7 +7,7 @@ use Rattle.octets.specs.Octets.{choose, over}
 use Rattle.sbox.specs.Sbox.{sBox}
 use Rattle.schedule.specs.Schedule.{scheduleOf, keyNumber}
 use Rattle.fips197.specs.Cipher.{aesOf}
-use Rattle.sp800_38a.specs.Modes.{ivLength, moded}
+use Rattle.sp800_38a.specs.Modes.{ivLength, anyLength, moded}
 use Rattle.sp800_38a.specs.declared.Operation.{Operation}
 use Rattle.modes.specs.declared.ModeAnswer.{ModeAnswer}
 use Rattle.modes.specs.declared.ModeAnswer.the-variants.{Done, BadKey, BadIv, NotPieces, OutputShort}
@@ -20,16 +20,21 @@ modeNumber BadIv = 2
 modeNumber NotPieces = 3
 modeNumber OutputShort = 4
 
--- 1, 2, 3, 4, in that order, of the key's number, the IV's length and the one wanted, and the lengths of input and output
-unfoldable pub judged : (key wanted iv inp out : ℕ) → ModeAnswer
-judged key wanted iv inp out =
+-- the bytes past whole pieces that an operation does not take: none where any length goes
+unfoldable pub leftOver : Operation → ℕ → ℕ
+leftOver o n = choose (anyLength o) 0 (n % 16)
+
+-- 1, 2, 3, 4, in that order, of the key's number, the IV's length and the one wanted, the bytes left over, and the lengths of input and output
+unfoldable pub judged : (key wanted iv left inp out : ℕ) → ModeAnswer
+judged key wanted iv left inp out =
     choose (eqb key 0)
     (choose (eqb iv wanted)
-    (choose (eqb (inp % 16) 0)
+    (choose (eqb left 0)
     (choose (ltb out inp) OutputShort Done) NotPieces) BadIv) BadKey
 
 unfoldable pub modeAnswer : Operation → (key iv inp out : List ℕ) → ModeAnswer
-modeAnswer o key iv inp out = judged (keyNumber (scheduleOf sBox key .answer)) (ivLength 16 o) (length iv) (length inp) (length out)
+modeAnswer o key iv inp out =
+    judged (keyNumber (scheduleOf sBox key .answer)) (ivLength 16 o) (length iv) (leftOver o (length inp)) (length inp) (length out)
 
 -- the output afterwards: what the operation makes of the input, and the rest as it was; after a refusal, as it was
 abbrev pub modeOutput : ModeAnswer → Operation → (key iv inp out : List ℕ) → List ℕ

@@ -1,6 +1,7 @@
-// The modes of SP 800-38A on whole pieces of 16 bytes: ECB, CBC, CFB with 16-byte segments, and OFB, each way, under a key.
+// The modes of SP 800-38A under a key, each way: ECB, CBC and CFB with 16-byte segments on whole pieces of 16 bytes, OFB on any length.
 use blocks::load;
 use cipher::inverse_words;
+use pieces::any_length;
 use schedule::KeyAnswer;
 use schedule::KeySchedule;
 use sp800_38a::Operation;
@@ -13,7 +14,7 @@ ghost use Rattle.tables.specs.Tables.{forwardTable, inverseTable};
 ghost use Rattle.sp800_38a.specs.Modes.{ivLength};
 ghost use Rattle.sp800_38a.specs.Modes as standard;
 ghost use Rattle.pieces.specs.Runs.{runOver};
-ghost use Rattle.modes.specs.Calls.{modeNumber, judged, modeAnswer, modeOutput};
+ghost use Rattle.modes.specs.Calls.{modeNumber, leftOver, judged, modeAnswer, modeOutput};
 
 pub enum ModeAnswer {
     Done,
@@ -107,23 +108,33 @@ fn inverts(operation: Operation) -> bool
 
 // The answer, from that for the key and the lengths of the rest.
 fn judge(key: KeyAnswer, operation: Operation, iv: usize, input: usize, output: usize) -> ModeAnswer
-    ensures { λ r. ⌜ r ≡ judged (keyNumber key) (ivLength 16 operation) iv input output ⌝ }
+    ensures { λ r. ⌜ r ≡ judged (keyNumber key) (ivLength 16 operation) iv (leftOver operation input) input output ⌝ }
 {
     let KeyAnswer::Taken = key else {
         return ModeAnswer::BadKey;
     };
     let wanted = wanted_iv(operation);
-    let short = input % 16;
+    let left = left_over(operation, input);
     if iv != wanted {
         return ModeAnswer::BadIv;
     }
-    if short != 0 {
+    if left != 0 {
         return ModeAnswer::NotPieces;
     }
     if output < input {
         return ModeAnswer::OutputShort;
     }
     ModeAnswer::Done
+}
+
+// The bytes past whole pieces, which OFB alone takes.
+fn left_over(operation: Operation, input: usize) -> usize
+    ensures { λ r. ⌜ r ≡ leftOver operation input ⌝ }
+{
+    if any_length(operation) {
+        return 0;
+    }
+    input % 16
 }
 
 fn wanted_iv(operation: Operation) -> usize

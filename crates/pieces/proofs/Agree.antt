@@ -1,29 +1,26 @@
 -- A run over the tables of the standard is the operation over AES. Assumes nothing.
 use mathlib.Core.Path.{_≡_, refl, sym, ap, ap₂, _∙_}
-use mathlib.Core.Bool.{true, false, true≢false}
+use mathlib.Core.Bool.{Bool, true, false, true≢false}
 use mathlib.Core.List.{List, [], _++_, append-nil}
-use mathlib.Core.Logic.{⊎-elim}
-use Prim.Native.Nat.{ℕ, zero, suc, _+_, _*_, _/_, _%_, _≤_, _<_}
+use Prim.Native.Nat.{ℕ, zero, suc, _*_, _/_, _%_, _≤_, min}
 use native.Mathlib.Nat.{zero-lt-suc}
 use native.Mathlib.Omega.{arith}
-use borrow.Author.Tests.{lt-ltb, le-ltb}
 use lib.ListN.{length, take, drop, drop-of-length-le}
 use lib.Seq.{take-all}
-use Rattle.octets.specs.Octets.{Bytes, over}
+use Rattle.octets.specs.Octets.{choose, Bytes, over}
 use Rattle.octets.specs.Blocks.{BlockCipher, Lawful}
-use Rattle.octets.proofs.Xor.{lt-or-le}
 use Rattle.blocks.specs.Blocks.{blockAt}
 use Rattle.blocks.proofs.Laws.{block-at, block-octets}
 use Rattle.lookups.specs.Lookups.{tableCipher, oneTable}
 use Rattle.lookups.proofs.Lawful.{Agree}
 use Rattle.sp800_38a.specs.Pieces.{outputOf, after, pieceCount}
-use Rattle.sp800_38a.specs.Modes.{machine, inverts, ivLength, moded}
+use Rattle.sp800_38a.specs.Modes.{machine, inverts, ivLength, anyLength, Unless, moded}
 use Rattle.sp800_38a.specs.declared.Operation.{Operation}
 use Rattle.sp800_38a.specs.declared.Operation.the-variants.{EcbEncrypt, EcbDecrypt, CbcEncrypt, CbcDecrypt, CfbEncrypt, CfbDecrypt, OfbEncrypt, OfbDecrypt}
 use Rattle.sp800_38a.proofs.Undo.{ChainOf}
-use Rattle.sp800_38a.proofs.Sixteen.{by-sixteen, length-16}
+use Rattle.sp800_38a.proofs.Sixteen.{pieces-16, length-16}
 use Rattle.sp800_38a.proofs.Same.{moded-same, handed-same}
-use Rattle.pieces.specs.Runs.{common, runOver}
+use Rattle.pieces.specs.Runs.{reach, runOver}
 
 -- an operation uses the cipher one way only, so the table and the schedule of that way serve
 forward-only : (t b w v : List ℕ) (nr : ℕ) (o : Operation) → inverts o ≡ false → machine (oneTable t w nr) o ≡ machine (tableCipher t b w v nr) o
@@ -54,6 +51,17 @@ module _ (t b w v : List ℕ) (nr : ℕ) (o : Operation) (iv inp out : List ℕ)
   pub through-backward : inverts o ≡ true → runOver (oneTable b v nr) o iv inp out ≡ runOver (tableCipher t b w v nr) o iv inp out
   unfolding runOver
   through-backward e = rw (backward-only t b w v nr o e)
+
+-- where any length goes, both ways are the same machine
+pub any-length-ofb : (c : BlockCipher) (o : Operation) → anyLength o ≡ true → machine c o ≡ machine c OfbEncrypt
+any-length-ofb c EcbEncrypt e = absurd (true≢false (sym e))
+any-length-ofb c EcbDecrypt e = absurd (true≢false (sym e))
+any-length-ofb c CbcEncrypt e = absurd (true≢false (sym e))
+any-length-ofb c CbcDecrypt e = absurd (true≢false (sym e))
+any-length-ofb c CfbEncrypt e = absurd (true≢false (sym e))
+any-length-ofb c CfbDecrypt e = absurd (true≢false (sym e))
+any-length-ofb c OfbEncrypt e = refl
+any-length-ofb c OfbDecrypt e = refl
 
 -- ---- the IV
 
@@ -105,37 +113,36 @@ module _ (c : BlockCipher) (iv : List ℕ) (n : ℕ) (s : List ℕ) where
   iv-same OfbEncrypt e = block-iv OfbEncrypt e
   iv-same OfbDecrypt e = block-iv OfbDecrypt e
 
--- ---- whole pieces
+-- ---- an input that a run takes whole
 
--- the pieces that both have are the input's, where the output is as long
-common-all : (a b : ℕ) → a % 16 ≡ 0 → a ≤ b → common a b ≡ (a + 15) / 16
-unfolding common
-common-all a b h l = ⊎-elim shorter equal (lt-or-le a b)
-  where
-    shorter : a < b → common a b ≡ (a + 15) / 16
-    shorter k = rw (lt-ltb a b k) (omega arith)
+-- as long as the output at most, and whole pieces where any length does not go
+all-taken : (k : Bool) (a b : ℕ) → Unless k (a % 16 ≡ 0) → a ≤ b → choose k (min a b) (min a b / 16 * 16) ≡ a
+all-taken true a b h l = omega arith
+all-taken false a b h l = omega arith
 
-    equal : b ≤ a → common a b ≡ (a + 15) / 16
-    equal k = rw (le-ltb a b k) (omega arith)
+taken-all : (o : Operation) (inp out : List ℕ) → Unless (anyLength o) (length inp % 16 ≡ 0) → length inp ≤ length out → take (reach o (length inp) (length out)) inp ≡ inp
+unfolding reach
+taken-all o inp out h l = ap (λ (n : ℕ). take n inp) (all-taken (anyLength o) (length inp) (length out) h l) ∙ take-all (length inp) inp (omega arith)
+
+whole-always : (k : Bool) (n : ℕ) → n % 16 ≡ 0 → Unless k (n % 16 ≡ 0)
+whole-always true n h = tt
+whole-always false n h = h
 
 -- a run whose input and output are as long, and whole pieces: the operation, whatever the cipher
 pub through-whole : (c : BlockCipher) (o : Operation) (iv inp out : List ℕ) → length inp % 16 ≡ 0 → length inp ≡ length out
     → runOver c o iv inp out ≡ (after 16 (machine c o) iv (pieceCount 16 inp) inp, moded 16 c o iv inp)
 unfolding runOver
 through-whole c o iv inp out h e =
-    let n = (length inp + 15) / 16 in
-    let k = common-all (length inp) (length out) h (omega arith) in
-    let z : drop (n * 16) out ≡ [] = drop-of-length-le out {i = n * 16} (omega arith) in
-    rw (k, z, append-nil (outputOf 16 (machine c o) iv n inp))
+    let z : drop (length inp) out ≡ [] = drop-of-length-le out {i = length inp} (omega arith) in
+    rw (taken-all o inp out (whole-always (anyLength o) (length inp) h) (omega arith), z, append-nil (moded 16 c o iv inp))
 
-module _ (c d : BlockCipher) (a : Agree c d) (l : Lawful 16 d) (o : Operation) (st inp : List ℕ) (g : ChainOf 16 o st) (b : Bytes inp) (h : length inp % 16 ≡ 0) where
+module _ (c d : BlockCipher) (a : Agree c d) (l : Lawful 16 d) (o : Operation) (st inp : List ℕ) (g : ChainOf 16 o st) (b : Bytes inp)
+    (h : Unless (anyLength o) (length inp % 16 ≡ 0)) where
   -- a run over one cipher is the operation over the other, over the front of the output
   pub through-mode : (out : List ℕ) → length inp ≤ length out
       → runOver c o st inp out ≡ (after 16 (machine d o) st (pieceCount 16 inp) inp, over (moded 16 d o st inp) out)
   unfolding runOver
   through-mode out r =
-      let n = (length inp + 15) / 16 in
-      let k : n * 16 ≡ length inp = omega arith in
       let some = zero-lt-suc 15 in
-      let w = by-sixteen (length inp) h in
-      rw (common-all (length inp) (length out) h r, handed-same 16 c d (a .enc-same) (a .dec-same) l o (length inp / 16) st inp some g b w, moded-same 16 c d (a .enc-same) (a .dec-same) l o (length inp / 16) st inp some g b w, length-16 d l o st inp g b h, k)
+      let w = pieces-16 (anyLength o) (length inp) h in
+      rw (taken-all o inp out h r, handed-same 16 c d (a .enc-same) (a .dec-same) l o (length inp / 16) st inp some g b w, moded-same 16 c d (a .enc-same) (a .dec-same) l o (length inp / 16) st inp some g b w, length-16 d l o st inp g b h)

@@ -1,7 +1,9 @@
 // Pieces of 16 bytes through an operation of a mode, with the table and the schedule lent that it looks up in:
 // those of the inverse cipher where it inverts, of the cipher elsewhere.
+mod last;
 mod pairs;
 
+use crate::last::to_the_end;
 use crate::pairs::goes_in_pairs;
 use crate::pairs::in_pairs;
 use blocks::load;
@@ -9,14 +11,15 @@ use blocks::store;
 use sp800_38a::Operation;
 use steps::step;
 ghost use mathlib.Core.Path.{_≡_};
-ghost use Prim.Native.Nat.{_*_, _≤_};
+ghost use Prim.Native.Nat.{_*_, _≤_, min};
 ghost use lib.ListN.{length};
 ghost use Rattle.lookups.specs.Lookups.{oneTable};
 ghost use Rattle.sp800_38a.specs.Pieces.{ran};
-ghost use Rattle.sp800_38a.specs.Modes.{machine};
-ghost use Rattle.pieces.specs.Runs.{common, runOver};
+ghost use Rattle.sp800_38a.specs.Modes.{machine, anyLength};
+ghost use Rattle.pieces.specs.Runs.{runOver};
 
-// The whole pieces that input and output have in common; the answer is what a piece after them is chained to.
+// The pieces that input and output have in common: whole ones, and in OFB a short last one too.
+// The answer is what a piece after them is chained to.
 pub fn run(
     table: &[u32; 256],
     words: &[u32; 60],
@@ -28,11 +31,31 @@ pub fn run(
 ) -> [u8; 16]
     ensures { λ r. ⌜ (r, now (output .exit)) ≡ runOver (oneTable (now (table .entry)) (now (words .entry)) rounds) operation iv (now (input .entry)) (now (output .entry)) ⌝ }
 {
-    let n = in_common(input.len(), output.len());
+    let both = shorter(input.len(), output.len());
+    if any_length(operation) {
+        return to_the_end(table, words, rounds, operation, iv, both, input, output);
+    }
+    let n = both / 16;
     if goes_in_pairs(operation) {
         return in_pairs(table, words, rounds, operation, iv, n, input, output);
     }
     in_order(table, words, rounds, operation, iv, n, input, output)
+}
+
+// Whether an operation takes an input of any length, its last piece short: OFB does.
+pub fn any_length(operation: Operation) -> bool
+    ensures { λ r. ⌜ r ≡ anyLength operation ⌝ }
+{
+    match operation {
+        Operation::EcbEncrypt => false,
+        Operation::EcbDecrypt => false,
+        Operation::CbcEncrypt => false,
+        Operation::CbcDecrypt => false,
+        Operation::CfbEncrypt => false,
+        Operation::CfbDecrypt => false,
+        Operation::OfbEncrypt => true,
+        Operation::OfbDecrypt => true,
+    }
 }
 
 // The first n pieces, one after the other.
@@ -60,9 +83,8 @@ fn in_order(
     chain
 }
 
-// How many whole pieces fit both lengths.
-fn in_common(a: usize, b: usize) -> usize
-    ensures { λ r. ⌜ r ≡ common a b ⌝ }
+fn shorter(a: usize, b: usize) -> usize
+    ensures { λ r. ⌜ r ≡ min a b ⌝ }
 {
-    if a < b { a / 16 } else { b / 16 }
+    if a < b { a } else { b }
 }

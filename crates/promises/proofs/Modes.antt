@@ -10,7 +10,7 @@ use denote.Ref.{now}
 use lib.Dec.{eqb, ltb}
 use lib.ListN.{length, take, drop, length-append, length-drop}
 use lib.Seq.{take-at, drop-at}
-use Rattle.octets.specs.Octets.{choose, over, Bytes}
+use Rattle.octets.specs.Octets.{choose, over, Bytes, Octets}
 use Rattle.octets.specs.Blocks.{BlockCipher, Lawful}
 use Rattle.sbox.specs.Sbox.{sBox}
 use Rattle.schedule.specs.Schedule.{scheduleOf, keyNumber, roundCount}
@@ -20,31 +20,36 @@ use Rattle.tables.specs.Tables.{forwardTable, inverseTable}
 use Rattle.lookups.specs.Lookups.{oneTable, tableCipher, inverseWords}
 use Rattle.lookups.proofs.Lawful.{lent-agrees}
 use Rattle.sp800_38a.specs.Pieces.{outputOf, after, pieceCount}
-use Rattle.sp800_38a.specs.Modes.{machine, other, inverts, ivLength, moded}
+use Rattle.sp800_38a.specs.Modes.{machine, other, inverts, ivLength, anyLength, Unless, moded}
 use Rattle.sp800_38a.specs.Equations.{Equation}
 use Rattle.sp800_38a.specs.declared.Operation.{Operation}
 use Rattle.sp800_38a.specs.declared.Operation.the-variants.{EcbEncrypt, EcbDecrypt, CbcEncrypt, CbcDecrypt, CfbEncrypt, CfbDecrypt, OfbEncrypt, OfbDecrypt}
 use Rattle.sp800_38a.proofs.Undo.{ChainOf, moded-undone}
-use Rattle.sp800_38a.proofs.Sixteen.{by-sixteen, length-16, undone-16}
+use Rattle.sp800_38a.proofs.Sixteen.{pieces-16, length-16, undone-16}
 use Rattle.sp800_38a.proofs.Equations.{equation}
-use Rattle.pieces.specs.Runs.{common, runOver}
+use Rattle.pieces.specs.Runs.{reach, runOver}
 use Rattle.pieces.proofs.Agree.{iv-is-chain, through-forward, through-backward, through-mode}
-use Rattle.modes.specs.Calls.{modeNumber, judged, modeAnswer, modeOutput}
+use Rattle.modes.specs.Calls.{modeNumber, leftOver, judged, modeAnswer, modeOutput}
 use Rattle.modes.specs.declared.ModeAnswer.{ModeAnswer}
 use Rattle.modes.specs.declared.ModeAnswer.the-variants.{Done, BadKey, BadIv, NotPieces, OutputShort}
-use Rattle.modes.proofs.Answers.{kept}
+use Rattle.modes.proofs.Answers.{kept, left-none, none-left}
 use Rattle.promises.proofs.Keys.{KeyTaken}
 use Rattle.modes.proofs.apply.Reads as apply
 use Rattle.steps.proofs.step.Reads as step
+use Rattle.pieces.proofs.any_length.Reads as any-length
 use Rattle.pieces.proofs.run.Reads as run
 
 -- ---- the words of this page
+
+-- the lengths of input that an operation takes: OFB any, the others those of whole pieces
+abbrev pub Takes : Operation → ℕ → Type 0
+Takes o n = Unless (anyLength o) (n % 16 ≡ 0)
 
 -- what a call asks, in the order of the table: 1, 2, 3, 4 come where one of these fails
 pub record Fit (o : Operation) (key iv inp out : List ℕ) : Type 0 where
   pub key-taken : KeyTaken key
   pub iv-right : length iv ≡ ivLength 16 o
-  pub pieces : length inp % 16 ≡ 0
+  pub pieces : Takes o (length inp)
   pub room : length inp ≤ length out
 
 -- what each answer says: that its row of the table holds, and that no earlier one does
@@ -52,8 +57,8 @@ abbrev pub Says : Operation → (key iv inp out : List ℕ) → ModeAnswer → T
 Says o key iv inp out Done = Fit o key iv inp out
 Says o key iv inp out BadKey = KeyTaken key → ⊥
 Says o key iv inp out BadIv = KeyTaken key × (length iv ≡ ivLength 16 o → ⊥)
-Says o key iv inp out NotPieces = KeyTaken key × (length iv ≡ ivLength 16 o) × (length inp % 16 ≡ 0 → ⊥)
-Says o key iv inp out OutputShort = KeyTaken key × (length iv ≡ ivLength 16 o) × (length inp % 16 ≡ 0) × (length out < length inp)
+Says o key iv inp out NotPieces = KeyTaken key × (length iv ≡ ivLength 16 o) × (Takes o (length inp) → ⊥)
+Says o key iv inp out OutputShort = KeyTaken key × (length iv ≡ ivLength 16 o) × Takes o (length inp) × (length out < length inp)
 
 -- ---- demand 1
 
@@ -76,6 +81,12 @@ step-asks-nothing κs a = tt
 pub step-determined : (κs : _) (a : _) (r r′ : _) (s s′ : _) → step.Post κs a r s → step.Post κs a r′ s′ → r ≡ r′
 step-determined κs a r r′ s s′ p q = p ∙ sym q
 
+pub any-length-asks-nothing : (κs : _) (a : _) → any-length.Asked κs a
+any-length-asks-nothing κs a = tt
+
+pub any-length-determined : (κs : _) (a : _) (r r′ : _) (s s′ : _) → any-length.Post κs a r s → any-length.Post κs a r′ s′ → r ≡ r′
+any-length-determined κs a r r′ s s′ p q = p ∙ sym q
+
 pub run-asks-nothing : (κs : _) (a : _) → run.Asked κs a
 run-asks-nothing κs a = tt
 
@@ -83,9 +94,9 @@ pub run-determined : (κs : _) (a : _) (r r′ : _) (s s′ : _) → run.Post κ
     → (r ≡ r′) × (now (s .1 .1 .1 .1 .1 .1 .0) ≡ now (s′ .1 .1 .1 .1 .1 .1 .0))
 run-determined κs a r r′ s s′ p q = let e = p ∙ sym q in (ap (λ (x : List ℕ × List ℕ). x .0) e, ap (λ (x : List ℕ × List ℕ). x .1) e)
 
--- a run refuses nothing; where input and output have no whole piece in common it leaves the output as it was
+-- a run refuses nothing; where input and output have nothing in common that it takes it leaves the output as it was
 pub run-refused-keeps : (κs : _) (a : _) (r : _) (s : _) → run.Post κs a r s
-    → common (length (now (a .1 .1 .1 .1 .1 .0))) (length (now (a .1 .1 .1 .1 .1 .1 .0))) ≡ 0
+    → reach (a .1 .1 .1 .0) (length (now (a .1 .1 .1 .1 .1 .0))) (length (now (a .1 .1 .1 .1 .1 .1 .0))) ≡ 0
     → now (s .1 .1 .1 .1 .1 .1 .0) ≡ now (a .1 .1 .1 .1 .1 .1 .0)
 unfolding runOver outputOf
 run-refused-keeps κs a r s p e = ap (λ (x : List ℕ × List ℕ). x .1) p ∙ rw e
@@ -95,13 +106,16 @@ run-refused-keeps κs a r s p e = ap (λ (x : List ℕ × List ℕ). x .1) p ∙
 tell : (o : Operation) (key iv inp out : List ℕ) → Says o key iv inp out (modeAnswer o key iv inp out)
 unfolding modeAnswer judged
 tell o key iv inp out =
-    each (eqb (keyNumber (scheduleOf sBox key .answer)) 0) (eqb (length iv) (ivLength 16 o)) (eqb (length inp % 16) 0) (ltb (length out) (length inp)) refl refl refl refl
+    each (eqb (keyNumber (scheduleOf sBox key .answer)) 0) (eqb (length iv) (ivLength 16 o)) (eqb (leftOver o (length inp)) 0) (ltb (length out) (length inp)) refl refl refl refl
   where
-    each : (p q u v : Bool) → eqb (keyNumber (scheduleOf sBox key .answer)) 0 ≡ p → eqb (length iv) (ivLength 16 o) ≡ q → eqb (length inp % 16) 0 ≡ u → ltb (length out) (length inp) ≡ v
+    taken : leftOver o (length inp) ≡ 0 → Takes o (length inp)
+    taken e = left-none o (length inp) e
+
+    each : (p q u v : Bool) → eqb (keyNumber (scheduleOf sBox key .answer)) 0 ≡ p → eqb (length iv) (ivLength 16 o) ≡ q → eqb (leftOver o (length inp)) 0 ≡ u → ltb (length out) (length inp) ≡ v
         → Says o key iv inp out (choose p (choose q (choose u (choose v OutputShort Done) NotPieces) BadIv) BadKey)
-    each true true true true ep eq eu ev = (eqb-true _ _ ep, eqb-true _ _ eq, eqb-true _ _ eu, ltb-true _ _ ev)
-    each true true true false ep eq eu ev = record { key-taken = eqb-true _ _ ep; iv-right = eqb-true _ _ eq; pieces = eqb-true _ _ eu; room = ltb-false _ _ ev }
-    each true true false v ep eq eu ev = (eqb-true _ _ ep, eqb-true _ _ eq, eqb-false _ _ eu)
+    each true true true true ep eq eu ev = (eqb-true _ _ ep, eqb-true _ _ eq, taken (eqb-true _ _ eu), ltb-true _ _ ev)
+    each true true true false ep eq eu ev = record { key-taken = eqb-true _ _ ep; iv-right = eqb-true _ _ eq; pieces = taken (eqb-true _ _ eu); room = ltb-false _ _ ev }
+    each true true false v ep eq eu ev = (eqb-true _ _ ep, eqb-true _ _ eq, λ t. eqb-false _ _ eu (none-left o (length inp) t))
     each true false u v ep eq eu ev = (eqb-true _ _ ep, eqb-false _ _ eq)
     each false q u v ep eq eu ev = eqb-false _ _ ep
 
@@ -126,6 +140,25 @@ apply-as-told κs a r s p =
 pub apply-done : (κs : _) (a : _) (r : _) (s : _) → apply.Post κs a r s
     → Fit (a .0) (now (a .1 .0)) (now (a .1 .1 .0)) (now (a .1 .1 .1 .0)) (now (a .1 .1 .1 .1 .0)) → modeNumber r ≡ 0
 apply-done κs a r s p f = ap modeNumber (fit-done _ _ _ _ _ f r (apply-as-told κs a r s p))
+
+-- 3 comes from ECB, CBC and CFB alone
+pub not-pieces-not-ofb : (κs : _) (a : _) (r : _) (s : _) → apply.Post κs a r s → modeNumber r ≡ 3 → anyLength (a .0) ≡ false
+not-pieces-not-ofb κs a r s p e = whole-asked (a .0) (told r e (apply-as-told κs a r s p))
+  where
+    told : (r : ModeAnswer) → modeNumber r ≡ 3 → Says (a .0) (now (a .1 .0)) (now (a .1 .1 .0)) (now (a .1 .1 .1 .0)) (now (a .1 .1 .1 .1 .0)) r
+        → Takes (a .0) (length (now (a .1 .1 .1 .0))) → ⊥
+    told Done e t = absurd (omega arith)
+    told BadKey e t = absurd (omega arith)
+    told BadIv e t = absurd (omega arith)
+    told NotPieces e t = t .2
+    told OutputShort e t = absurd (omega arith)
+
+    whole-asked : (o : Operation) → (Takes o (length (now (a .1 .1 .1 .0))) → ⊥) → anyLength o ≡ false
+    whole-asked o h = by (anyLength o) refl h
+      where
+        by : (k : Bool) → anyLength o ≡ k → (Unless k (length (now (a .1 .1 .1 .0)) % 16 ≡ 0) → ⊥) → k ≡ false
+        by true e h = absurd (h tt)
+        by false e h = refl
 
 -- ---- what a call that fits wrote
 
@@ -167,20 +200,26 @@ pub apply-keeps-the-rest : (κs : _) (a : _) (r : _) (s : _) → apply.Post κs 
     × (length (now (s .1 .1 .1 .1 .0)) ≡ length (now (a .1 .1 .1 .1 .0)))
 apply-keeps-the-rest κs a r s p bi bs = rest-of (a .0) (now (a .1 .0)) (now (a .1 .1 .0)) (now (a .1 .1 .1 .0)) (now (a .1 .1 .1 .1 .0)) bi bs r (apply-as-told κs a r s p) _ (p .1)
 
--- ---- demand 2: every piece of the output is as the standard's equation says, for each operation
+-- ---- demand 2: every piece of the output's first bytes, as many as the input has, is as the standard's equation says,
+-- for each operation; in OFB a short last piece too
 
 pub apply-is-sp-800-38a : (κs : _) (a : _) (r : _) (s : _) → apply.Post κs a r s
     → Fit (a .0) (now (a .1 .0)) (now (a .1 .1 .0)) (now (a .1 .1 .1 .0)) (now (a .1 .1 .1 .1 .0))
     → Bytes (now (a .1 .1 .0)) → Bytes (now (a .1 .1 .1 .0)) → (i : ℕ) → i * 16 < length (now (a .1 .1 .1 .0))
-    → Equation 16 (aesOf (now (a .1 .0))) (a .0) (now (a .1 .1 .0)) (now (a .1 .1 .1 .0)) (now (s .1 .1 .1 .1 .0)) i
+    → Equation 16 (aesOf (now (a .1 .0))) (a .0) (now (a .1 .1 .0)) (now (a .1 .1 .1 .0)) (take (length (now (a .1 .1 .1 .0))) (now (s .1 .1 .1 .1 .0))) i
 apply-is-sp-800-38a κs a r s p f bi bs i h =
     let o = a .0 in
     let key = now (a .1 .0) in
     let iv = now (a .1 .1 .0) in
     let inp = now (a .1 .1 .1 .0) in
     let out = now (a .1 .1 .1 .1 .0) in
-    rw (p .1 ∙ wrote o key iv inp out bi bs f r (apply-as-told κs a r s p))
-    (equation 16 (aesOf key) (lawful o key iv inp out bi bs f) (length inp / 16) (zero-lt-suc 15) iv inp out bs (by-sixteen (length inp) (f .pieces)) o (chain o key iv inp out bi bs f) i (omega arith))
+    let m = moded 16 (aesOf key) o iv inp in
+    let e : take (length inp) (now (s .1 .1 .1 .1 .0)) ≡ m =
+    ap (take (length inp)) (p .1 ∙ wrote o key iv inp out bi bs f r (apply-as-told κs a r s p))
+    ∙ take-at m (drop (length m) out) (length inp) (long o key iv inp out bi bs f) in
+    rw e
+    (equation 16 (aesOf key) (lawful o key iv inp out bi bs f) (length inp / 16) (zero-lt-suc 15) iv inp bs o (chain o key iv inp out bi bs f)
+    (pieces-16 (anyLength o) (length inp) (f .pieces)) i h)
 
 -- the table and the schedule that an operation looks up in, for a schedule w of nr rounds
 pub record Lends (o : Operation) (w : List ℕ) (nr : ℕ) (table words : List ℕ) : Type 0 where
@@ -195,10 +234,10 @@ lent-through o w nr table words l iv inp out = by (inverts o) refl
     by true e = rw (l .back e .0, l .back e .1) (through-backward forwardTable inverseTable w (inverseWords w nr) nr o iv inp out e)
     by false e = rw (l .forth e .0, l .forth e .1) (through-forward forwardTable inverseTable w (inverseWords w nr) nr o iv inp out e)
 
--- with these lent, a run over whole pieces is the operation under AES; it hands on the chaining value
+-- with these lent, a run over an input that the operation takes is the operation under AES; it hands on the chaining value
 pub run-is-the-mode : (κs : _) (a : _) (r : _) (s : _) → run.Post κs a r s → (w : List ℕ) → roundCount (a .1 .1 .0) ≡ true
     → Lends (a .1 .1 .1 .0) w (a .1 .1 .0) (now (a .0)) (now (a .1 .0)) → ChainOf 16 (a .1 .1 .1 .0) (a .1 .1 .1 .1 .0)
-    → Bytes (now (a .1 .1 .1 .1 .1 .0)) → length (now (a .1 .1 .1 .1 .1 .0)) % 16 ≡ 0 → length (now (a .1 .1 .1 .1 .1 .0)) ≤ length (now (a .1 .1 .1 .1 .1 .1 .0))
+    → Bytes (now (a .1 .1 .1 .1 .1 .0)) → Takes (a .1 .1 .1 .0) (length (now (a .1 .1 .1 .1 .1 .0))) → length (now (a .1 .1 .1 .1 .1 .0)) ≤ length (now (a .1 .1 .1 .1 .1 .1 .0))
     → (r ≡ after 16 (machine (standard w (a .1 .1 .0)) (a .1 .1 .1 .0)) (a .1 .1 .1 .1 .0) (pieceCount 16 (now (a .1 .1 .1 .1 .1 .0))) (now (a .1 .1 .1 .1 .1 .0)))
     × (now (s .1 .1 .1 .1 .1 .1 .0) ≡ over (moded 16 (standard w (a .1 .1 .0)) (a .1 .1 .1 .0) (a .1 .1 .1 .1 .0) (now (a .1 .1 .1 .1 .1 .0))) (now (a .1 .1 .1 .1 .1 .1 .0)))
 run-is-the-mode κs a r s p w known l g b h room =
@@ -212,22 +251,29 @@ run-is-the-mode κs a r s p w known l g b h room =
     let e = q ∙ through-mode c (standard w nr) (lent-agrees w nr) (aes-lawful w nr known) o iv inp g b h out room in
     (ap (λ (x : List ℕ × List ℕ). x .0) e, ap (λ (x : List ℕ × List ℕ). x .1) e)
 
--- ---- demand 3: each way of each mode undoes the other, on whole pieces
+-- ---- demand 3: each way of each mode undoes the other, on whole pieces; in OFB on every length
 
--- for the definitions, over every lawful block cipher of any width
-pub each-way-undoes-the-other : (z : ℕ) (c : BlockCipher) → Lawful z c → (o : Operation) (n : ℕ) (iv s : List ℕ) → 0 < z → ChainOf z o iv → Bytes s → length s ≡ n * z
+-- for the definitions, over every lawful block cipher of any width, on n whole pieces where those are asked
+pub each-way-undoes-the-other : (z : ℕ) (c : BlockCipher) → Lawful z c → (o : Operation) (n : ℕ) (iv s : List ℕ) → 0 < z → ChainOf z o iv → Bytes s
+    → Unless (anyLength o) (length s ≡ n * z)
     → moded z c (other o) iv (moded z c o iv s) ≡ s
 each-way-undoes-the-other z c l o n iv s h g b e = moded-undone z c l o n iv s h g b e
 
-other-iv : (o : Operation) → ivLength 16 o ≡ ivLength 16 (other o)
-other-iv EcbEncrypt = refl
-other-iv EcbDecrypt = refl
-other-iv CbcEncrypt = refl
-other-iv CbcDecrypt = refl
-other-iv CfbEncrypt = refl
-other-iv CfbDecrypt = refl
-other-iv OfbEncrypt = refl
-other-iv OfbDecrypt = refl
+-- OFB, whose other way is the same machine, at every length
+pub ofb-undoes-at-every-length : (z : ℕ) (c : BlockCipher) → Lawful z c → (iv s : List ℕ) → 0 < z → Octets z iv → Bytes s
+    → (moded z c OfbDecrypt iv (moded z c OfbEncrypt iv s) ≡ s) × (moded z c OfbEncrypt iv (moded z c OfbDecrypt iv s) ≡ s)
+ofb-undoes-at-every-length z c l iv s h g b = (moded-undone z c l OfbEncrypt 0 iv s h g b tt, moded-undone z c l OfbDecrypt 0 iv s h g b tt)
+
+-- both ways of a mode take the same lengths of IV and input
+other-takes : (o : Operation) → (ivLength 16 o ≡ ivLength 16 (other o)) × (anyLength (other o) ≡ anyLength o)
+other-takes EcbEncrypt = (refl, refl)
+other-takes EcbDecrypt = (refl, refl)
+other-takes CbcEncrypt = (refl, refl)
+other-takes CbcDecrypt = (refl, refl)
+other-takes CfbEncrypt = (refl, refl)
+other-takes CfbDecrypt = (refl, refl)
+other-takes OfbEncrypt = (refl, refl)
+other-takes OfbDecrypt = (refl, refl)
 
 -- for the calls: the other way, under the same key and IV, over what a call that fits wrote, writes what that call was given
 pub apply-undoes-apply : (κs : _) (a : _) (r : _) (s : _) → apply.Post κs a r s → (κs′ : _) (a′ : _) (r′ : _) (s′ : _) → apply.Post κs′ a′ r′ s′
@@ -247,7 +293,7 @@ apply-undoes-apply κs a r s p κs′ a′ r′ s′ q f eo ek ei es room bi bs 
     let made-is : now (a′ .1 .1 .1 .0) ≡ m =
     es ∙ ap (take (length inp)) (p .1 ∙ wrote o key iv inp out bi bs f r (apply-as-told κs a r s p)) ∙ take-at m (drop (length m) out) (length inp) n in
     let f′ : Fit (a′ .0) (now (a′ .1 .0)) (now (a′ .1 .1 .0)) (now (a′ .1 .1 .1 .0)) out′ =
-    rw (eo, ek, ei, made-is) (record { key-taken = f .key-taken; iv-right = f .iv-right ∙ other-iv o; pieces = rw n (f .pieces); room = omega (arith, n) }) in
+    rw (eo, ek, ei, made-is) (record { key-taken = f .key-taken; iv-right = f .iv-right ∙ other-takes o .0; pieces = rw (n, other-takes o .1) (f .pieces); room = omega (arith, n) }) in
     let d : r′ ≡ Done = fit-done _ _ _ _ _ f′ r′ (apply-as-told κs′ a′ r′ s′ q) in
     let over-is : now (s′ .1 .1 .1 .1 .0) ≡ over inp out′ = q .1 ∙ rw (d, eo, ek, ei, made-is, back o key iv inp out bi bs f) in
     ap (take (length inp)) over-is ∙ take-at inp (drop (length inp) out′) (length inp) refl

@@ -33,7 +33,7 @@ module _ (z : ℕ) (m : Machine) where
       (after-split n k st' (drop z s) ∙ ap (λ (r : List ℕ). after z m (after z m st' n (drop z s)) k r) (rest-of n s))
 
   -- n whole pieces are those of the first list, whatever follows it
-  front : (n : ℕ) (st a b : List ℕ) → length a ≡ n * z → (outputOf z m st n (a ++ b) ≡ outputOf z m st n a) × (after z m st n (a ++ b) ≡ after z m st n a)
+  pub front : (n : ℕ) (st a b : List ℕ) → length a ≡ n * z → (outputOf z m st n (a ++ b) ≡ outputOf z m st n a) × (after z m st n (a ++ b) ≡ after z m st n a)
   unfolding outputOf after
   front zero st a b e = (refl, refl)
   front (suc n) st a b e =

@@ -1,13 +1,13 @@
 -- A run through pieces, one piece more and by its pieces; for every machine. Assumes nothing.
 use mathlib.Core.Path.{_≡_, refl, sym, ap, ap₂, _∙_}
 use mathlib.Core.List.{List, _++_, append-assoc, append-nil}
-use Prim.Native.Nat.{ℕ, zero, suc, _+_, _-_, _*_, _/_, _<_}
-use native.Mathlib.Nat.{zero-mul, suc-mul, add-comm, zero-add, add-mul-div-right, div-eq-of-lt}
+use Prim.Native.Nat.{ℕ, zero, suc, _+_, _-_, _*_, _/_, _%_, _≤_, _<_}
+use native.Mathlib.Nat.{zero-mul, suc-mul, add-comm, zero-add, add-mul-div-right, div-eq-of-lt, div-add-mod', mod-lt, lt-of-mul-lt-mul-right}
 use native.Mathlib.Omega.{arith}
 use lib.ListN.{length, take, drop, length-append, length-take, length-drop}
 use lib.Seq.{drop-drop}
 use Rattle.octets.specs.Octets.{Octets, Bytes}
-use Rattle.octets.proofs.Blocks.{take-octets, drop-bytes, append-bytes}
+use Rattle.octets.proofs.Blocks.{take-octets, take-bytes, drop-bytes, append-bytes}
 use Rattle.sp800_38a.specs.Pieces.{Machine, outputOf, after, piece, pieceCount}
 
 module _ (z : ℕ) (m : Machine) where
@@ -44,6 +44,19 @@ each-whole z zero s e b = e ∙ zero-mul z
 each-whole z (suc n) s e b =
     let w : length s ≡ n * z + z = e ∙ suc-mul n z in
     (take-octets z s (omega arith) b, each-whole z n (drop z s) (omega (arith, length-drop z s)) (drop-bytes z s b))
+
+-- a piece that may be short
+pub record Part (z : ℕ) (p : List ℕ) : Type 0 where
+  pub size : length p ≤ z
+  pub bytes : Bytes p
+
+pub each-part : (z n : ℕ) (s : List ℕ) → length s ≤ n * z → Bytes s → Each z (Part z) n s
+each-part z zero s h b = omega (arith, zero-mul z)
+each-part z (suc n) s h b =
+    let w : suc n * z ≡ n * z + z = suc-mul n z in (
+      record { size = omega (arith, length-take z s); bytes = take-bytes z s b },
+      each-part z n (drop z s) (omega (arith, length-drop z s)) (drop-bytes z s b),
+    )
 
 -- what a machine keeps: G of every state, and lengths and bytes of pieces with P
 pub record Keeps (m : Machine) (G P : List ℕ → Type 0) : Type 0 where
@@ -96,3 +109,14 @@ count-whole z n s h e =
     let f : length s + (z - 1) ≡ z - 1 + n * z = ap (_+ (z - 1)) e ∙ add-comm (n * z) (z - 1) in
     let l : z - 1 < z = omega arith in
     ap (_/ z) f ∙ add-mul-div-right (z - 1) n h ∙ ap (_+ n) (div-eq-of-lt l) ∙ zero-add n
+
+-- counted pieces reach to the end, and no piece before the last does
+module _ (z : ℕ) (s : List ℕ) (some : 0 < z) where
+  count-parts : pieceCount z s * z + (length s + (z - 1)) % z ≡ length s + (z - 1)
+  count-parts = div-add-mod' (length s + (z - 1)) z
+
+  pub count-covers : length s ≤ pieceCount z s * z
+  count-covers = let r = mod-lt (length s + (z - 1)) some in omega (arith, count-parts)
+
+  pub below-count : (i : ℕ) → i * z < length s → i < pieceCount z s
+  below-count i h = lt-of-mul-lt-mul-right z (omega (arith, count-covers))

@@ -17,7 +17,8 @@ unfoldable pub outputBlock : BlockCipher → List ℕ → ℕ → List ℕ
 outputBlock e iv zero = iv
 outputBlock e iv (suc i) = e .enc (outputBlock e iv i)
 
--- of the cipher e, the IV, the input and the output; pieces are counted from 0 here, from 1 in the standard
+-- of the cipher e, the IV, the input and an output as long; pieces are counted from 0 here, from 1 in the standard;
+-- a sum goes as far as both, so that of O(i) a short last piece takes the leading bytes
 abbrev pub Equation : ℕ → BlockCipher → Operation → (iv inp out : List ℕ) → ℕ → Type 0
 Equation z e EcbEncrypt iv p c i = piece z c i ≡ e .enc (piece z p i)
 Equation z e EcbDecrypt iv c p i = piece z p i ≡ e .dec (piece z c i)

@@ -51,6 +51,22 @@ ivLength z CfbDecrypt = z
 ivLength z OfbEncrypt = z
 ivLength z OfbDecrypt = z
 
--- an operation over a list of bytes
+-- whether the input may have any length, its last piece short (5.2): in OFB alone; the others take whole pieces
+abbrev pub anyLength : Operation → Bool
+anyLength EcbEncrypt = false
+anyLength EcbDecrypt = false
+anyLength CbcEncrypt = false
+anyLength CbcDecrypt = false
+anyLength CfbEncrypt = false
+anyLength CfbDecrypt = false
+anyLength OfbEncrypt = true
+anyLength OfbDecrypt = true
+
+-- what is asked of an input unless any length goes
+abbrev pub Unless : Bool → Type 0 → Type 0
+Unless true P = Unit {0}
+Unless false P = P
+
+-- an operation over a list of bytes; of a short last piece as many bytes come out as it has
 abbrev pub moded : ℕ → BlockCipher → Operation → List ℕ → List ℕ → List ℕ
 moded z c o iv s = outputOf z (machine c o) iv (pieceCount z s) s

@@ -8,6 +8,10 @@ pub record Machine : Type 0 where
   pub out : List ℕ → List ℕ → List ℕ
   pub next : List ℕ → List ℕ → List ℕ
 
+-- how many pieces a list has, the last of which may be short
+abbrev pub pieceCount : ℕ → List ℕ → ℕ
+pieceCount z s = (length s + (z - 1)) / z
+
 -- what n pieces give, from a state
 unfoldable pub outputOf : ℕ → Machine → List ℕ → ℕ → List ℕ → List ℕ
 outputOf z m st zero s = []
@@ -22,10 +26,10 @@ after z m st (suc n) s = after z m (m .next st (take z s)) n (drop z s)
 abbrev pub ran : ℕ → Machine → List ℕ → ℕ → (s out : List ℕ) → List ℕ × List ℕ
 ran z m st n s out = (after z m st n s, outputOf z m st n s ++ drop (n * z) out)
 
+-- the same over a whole list, whose last piece may be short
+abbrev pub ranThrough : ℕ → Machine → List ℕ → (s out : List ℕ) → List ℕ × List ℕ
+ranThrough z m st s out = (after z m st (pieceCount z s) s, outputOf z m st (pieceCount z s) s ++ drop (length s) out)
+
 -- piece i, from 0
 abbrev pub piece : ℕ → List ℕ → ℕ → List ℕ
 piece z s i = take z (drop (i * z) s)
-
--- how many pieces a list has, the last of which may be short
-abbrev pub pieceCount : ℕ → List ℕ → ℕ
-pieceCount z s = (length s + (z - 1)) / z

@@ -34,8 +34,8 @@ pub const CALLS: &[Call] = &[
     call("cbc-decrypt", 1, chained_words),
     call("cfb-encrypt", 1, chained_words),
     call("cfb-decrypt", 1, chained_words),
-    call("ofb-encrypt", 1, chained_words),
-    call("ofb-decrypt", 1, chained_words),
+    call("ofb-encrypt", 1, ofb_words),
+    call("ofb-decrypt", 1, ofb_words),
     call("check", 3, key_and_message),
     call("check-start", 2, one_key),
     call("check-feed", 5, one_message),
@@ -151,15 +151,21 @@ fn key_and_block(draw: &mut Draw) -> Vec<String> {
 }
 
 fn ecb_words(draw: &mut Draw) -> Vec<String> {
-    mode_words(draw, 0)
+    let length = draw.whole_length();
+    mode_words(draw, 0, length)
 }
 
 fn chained_words(draw: &mut Draw) -> Vec<String> {
-    mode_words(draw, 16)
+    let length = draw.whole_length();
+    mode_words(draw, 16, length)
 }
 
-fn mode_words(draw: &mut Draw, iv: usize) -> Vec<String> {
-    let length = draw.whole_length();
+fn ofb_words(draw: &mut Draw) -> Vec<String> {
+    let length = draw.any_length();
+    mode_words(draw, 16, length)
+}
+
+fn mode_words(draw: &mut Draw, iv: usize, length: usize) -> Vec<String> {
     vec![
         draw.key(),
         draw.iv(iv),

@@ -4,6 +4,7 @@ use lib.ListN.{getD}
 use Rattle.octets.specs.Octets as octets
 use Rattle.octets.proofs.Fill.{Filled, filled-none, filled-more, filled-all}
 use Rattle.blocks.proofs.Laws.{sum-tabulate}
+use native.Mathlib.Omega.{arith}
 use borrow.Author.Needs.{needs}
 use Rattle.blocks.proofs.xor.Statement.{statement}
 use Rattle.blocks.proofs.xor.Tie as tie
@@ -37,7 +38,7 @@ unfolding octets.xor
 loop-again c = (search needs, filled-more (c .before .loop .inv .1) (c .loop-test .taken) _ refl)
 
 returns : tie.Need-returns Inv-loop μ-loop
-returns c = filled-all (c .before .loop .inv .1) (c .loop-test .left) ∙ sym (sum-tabulate (c .before .before .args .t1) (c .before .before .args .t2) (c .before .before .good .0 .1 .0 .1) (c .before .before .good .1 .0 .1 .0 .1))
+returns c = filled-all (c .before .loop .inv .1) (c .loop-test .left) ∙ sym (sum-tabulate 16 (c .before .before .args .t1) (c .before .before .args .t2) (c .before .before .good .0 .1 .0 .1) (omega (arith, c .before .before .good .1 .0 .1 .0 .1)))
 
 pub xor-spec : {M : Type 1} → statement M
 xor-spec =

@@ -1,58 +1,83 @@
+use Prim.Native.Nat.{_/_}
 use mathlib.Core.Path.{sym, _∙_}
 use denote.Ref.{now}
-use lib.ListN.{length}
-use Rattle.pieces.specs.Runs.{runOver}
-use Rattle.pieces.proofs.Runs.{common-le}
+use Rattle.lookups.specs.Lookups.{oneTable}
+use Rattle.sp800_38a.specs.Modes.{machine}
+use Rattle.pieces.specs.Runs.{reach, runOver}
+use Rattle.pieces.proofs.Runs.{whole-pieces}
 use native.Mathlib.Omega.{arith}
 use borrow.Author.Needs.{needs}
 use Rattle.pieces.proofs.run.Statement.{statement}
 use Rattle.pieces.proofs.run.Tie as tie
 
-in-common-requires : tie.Need-in-common-requires
-in-common-requires c κs = search needs
+shorter-requires : tie.Need-shorter-requires
+shorter-requires c κs = search needs
 
-goes-in-pairs-requires : tie.Need-goes-in-pairs-requires
-goes-in-pairs-requires c κs = search needs
+any-length-requires : tie.Need-any-length-requires
+any-length-requires c κs = search needs
 
-in-pairs-requires : tie.Need-in-pairs-requires
-in-pairs-requires c κs =
-    let k = c .before .before in
-    let a = k .before .before .before .before .args in
-    let h = common-le (length (now (a .input))) (length (now (a .output))) in
-    let e = k .before .in-common .ensures in
-    (sym (k .goes-in-pairs .ensures) ∙ c .before .if1 .taken, omega (arith, h .0, e), omega (arith, h .1, e))
+to-the-end-requires : tie.Need-to-the-end-requires
+to-the-end-requires c κs = search needs
 
 same-length : tie.Need-same-length
 same-length c = search needs
 
 returns : tie.Need-returns
-unfolding runOver
-returns c = rw (← c .before .before .before .before .before .before .in-common .ensures) (c .before .before .in-pairs .ensures)
+unfolding runOver reach
+returns c =
+    let k = c .before .before .before .before .before in
+    rw (sym (k .any-length .ensures) ∙ c .before .before .before .before .if1 .taken, ← k .before .shorter .ensures) (c .before .before .to-the-end .ensures)
 
-in-order-requires : tie.Need-in-order-requires
-in-order-requires c κs =
-    let k = c .before .before in
-    let a = k .before .before .before .before .args in
-    let h = common-le (length (now (a .input))) (length (now (a .output))) in
-    let e = k .before .in-common .ensures in
-    (omega (arith, h .0, e), omega (arith, h .1, e))
+goes-in-pairs-requires : tie.Need-goes-in-pairs-requires
+goes-in-pairs-requires c κs = search needs
+
+in-pairs-requires : tie.Need-in-pairs-requires
+in-pairs-requires c κs = search needs
 
 same-length-2 : tie.Need-same-length-2
 same-length-2 c = search needs
 
 returns-2 : tie.Need-returns-2
-unfolding runOver
-returns-2 c = rw (← c .before .before .before .before .before .before .in-common .ensures) (c .before .before .in-order .ensures)
+unfolding runOver reach
+returns-2 c =
+    let k = c .before .before .before .before .before .before .before in
+    let a = k .before .before .before .before .args in
+    let e = k .before .shorter .ensures in
+    let m = machine (oneTable (now (a .table)) (now (a .words)) (a .rounds)) (a .operation) in
+    c .before .before .in-pairs .ensures
+    ∙ whole-pieces m (a .iv) (now (a .input)) (now (a .output)) (k .before .shorter .result / 16) (omega (arith, e))
+    ∙ rw (sym (k .any-length .ensures) ∙ c .before .before .before .before .before .before .if1 .left, ← e)
+
+in-order-requires : tie.Need-in-order-requires
+in-order-requires c κs = search needs
+
+same-length-3 : tie.Need-same-length-3
+same-length-3 c = search needs
+
+returns-3 : tie.Need-returns-3
+unfolding runOver reach
+returns-3 c =
+    let k = c .before .before .before .before .before .before .before in
+    let a = k .before .before .before .before .args in
+    let e = k .before .shorter .ensures in
+    let m = machine (oneTable (now (a .table)) (now (a .words)) (a .rounds)) (a .operation) in
+    c .before .before .in-order .ensures
+    ∙ whole-pieces m (a .iv) (now (a .input)) (now (a .output)) (k .before .shorter .result / 16) (omega (arith, e))
+    ∙ rw (sym (k .any-length .ensures) ∙ c .before .before .before .before .before .before .if1 .left, ← e)
 
 pub run-spec : {M : Type 1} → statement M
 run-spec =
     tie.close
     (tie.spec
-    in-common-requires
-    goes-in-pairs-requires
-    in-pairs-requires
+    shorter-requires
+    any-length-requires
+    to-the-end-requires
     same-length
     returns
-    in-order-requires
+    goes-in-pairs-requires
+    in-pairs-requires
     same-length-2
-    returns-2)
+    returns-2
+    in-order-requires
+    same-length-3
+    returns-3)
