@@ -12,7 +12,7 @@ const cell cells[CELLS] = {
     {"ECB encryption, 1 MiB", "MB/s", LONG}, {"ECB decryption, 1 MiB", "MB/s", LONG},
     {"CBC encryption, 1 MiB", "MB/s", LONG}, {"CBC decryption, 1 MiB", "MB/s", LONG},
     {"CFB encryption, 1 MiB", "MB/s", LONG}, {"CFB decryption, 1 MiB", "MB/s", LONG},
-    {"OFB encryption, 1 MiB", "MB/s", LONG}, {"OFB decryption, 1 MiB", "MB/s", LONG},
+    {"OFB, 1 MiB", "MB/s", LONG},
     {"CMAC of 496 bytes", "ns", 16},
     {"an image block written", "ns", BLOCK}, {"an image block read", "ns", PAYLOAD},
     {"a turn of 128 blocks read", "MB/s", TURN * PAYLOAD},
@@ -88,7 +88,7 @@ static void whole(int mode, int way, size_t key_length)
         {dock_ecb_encrypt, dock_ecb_decrypt},
         {dock_cbc_encrypt, dock_cbc_decrypt},
         {dock_cfb_encrypt, dock_cfb_decrypt},
-        {dock_ofb_encrypt, dock_ofb_decrypt},
+        {dock_ofb, NULL},
     };
     must(calls[mode][way](key, key_length, iv, mode == ECB ? 0 : 16, input, LONG, output, LONG) == 0, "ours: a mode");
 }

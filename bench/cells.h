@@ -11,8 +11,8 @@ typedef struct {
     size_t result;     // bytes that a call puts out
 } cell;
 
-// Two cells of one block, two of each mode, the check, the writer and the reader.
-enum { ONE_BLOCK = 0, WHOLE = ONE_BLOCK + WAYS, CHECK = WHOLE + MODES * WAYS, WRITE, READ, READ_TURN, CELLS };
+// Two cells of one block, two of each mode but OFB, which has one and stands last, the check, the writer and the reader.
+enum { ONE_BLOCK = 0, WHOLE = ONE_BLOCK + WAYS, CHECK = WHOLE + OFB * WAYS + 1, WRITE, READ, READ_TURN, CELLS };
 extern const cell cells[CELLS];
 
 // Where every call puts its result.

@@ -81,8 +81,7 @@ ON_MODE(cbc_encrypt, 16)
 ON_MODE(cbc_decrypt, 16)
 ON_MODE(cfb_encrypt, 16)
 ON_MODE(cfb_decrypt, 16)
-ON_MODE(ofb_encrypt, 16)
-ON_MODE(ofb_decrypt, 16)
+ON_MODE(ofb, 16)
 
 static const size_t lengths[] = {0, 1, 16, 17, 496, 4096, LONG};
 enum { LENGTHS = sizeof lengths / sizeof lengths[0] };
@@ -198,8 +197,7 @@ static const struct {
     {"dock_cbc_decrypt", on_cbc_decrypt, 16, 0},
     {"dock_cfb_encrypt", on_cfb_encrypt, 16, 0},
     {"dock_cfb_decrypt", on_cfb_decrypt, 16, 0},
-    {"dock_ofb_encrypt", on_ofb_encrypt, 16, 0},
-    {"dock_ofb_decrypt", on_ofb_decrypt, 16, 0},
+    {"dock_ofb", on_ofb, 16, 0},
     {"dock_check", on_check, 0, sizeof(dock_check_answer)},
     {"dock_check_start", on_check_start, 0, sizeof(dock_start_answer)},
     {"dock_check_feed", on_check_feed, 0, 0},

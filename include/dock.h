@@ -100,7 +100,8 @@ dock_block_answer dock_decrypt(const uint8_t *key, size_t key_length, dock_block
 
 // Each encrypts or decrypts the input into the front of the output, which has at least the input's length. ECB, CBC and CFB take a
 // multiple of 16 bytes, or none at all; OFB takes any length. The IV is empty in ECB and 16 bytes in the other modes; CFB is that
-// with segments of 16 bytes. The answer is 0 or the first that applies of 1, 2, 3, 4; OFB never gives 3. There is no padding.
+// with segments of 16 bytes. OFB is one call: with the same key and IV it undoes itself. The answer is 0 or the first that applies
+// of 1, 2, 3, 4; OFB never gives 3. There is no padding.
 uint32_t dock_ecb_encrypt(const uint8_t *key, size_t key_length, const uint8_t *iv, size_t iv_length,
                           const uint8_t *input, size_t input_length, uint8_t *output, size_t output_length);
 uint32_t dock_ecb_decrypt(const uint8_t *key, size_t key_length, const uint8_t *iv, size_t iv_length,
@@ -113,10 +114,8 @@ uint32_t dock_cfb_encrypt(const uint8_t *key, size_t key_length, const uint8_t *
                           const uint8_t *input, size_t input_length, uint8_t *output, size_t output_length);
 uint32_t dock_cfb_decrypt(const uint8_t *key, size_t key_length, const uint8_t *iv, size_t iv_length,
                           const uint8_t *input, size_t input_length, uint8_t *output, size_t output_length);
-uint32_t dock_ofb_encrypt(const uint8_t *key, size_t key_length, const uint8_t *iv, size_t iv_length,
-                          const uint8_t *input, size_t input_length, uint8_t *output, size_t output_length);
-uint32_t dock_ofb_decrypt(const uint8_t *key, size_t key_length, const uint8_t *iv, size_t iv_length,
-                          const uint8_t *input, size_t input_length, uint8_t *output, size_t output_length);
+uint32_t dock_ofb(const uint8_t *key, size_t key_length, const uint8_t *iv, size_t iv_length,
+                  const uint8_t *input, size_t input_length, uint8_t *output, size_t output_length);
 
 // ---- The check: CMAC of SP 800-38B, all 16 bytes
 

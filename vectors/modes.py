@@ -12,9 +12,14 @@ WRONG_KEY_SIZES = (0, 15, 17, 23, 25, 31, 33, 64)
 KEY = counting(16)
 
 
+def word(mode, way):
+    """The first word of a line: OFB has one for both ways."""
+    return mode if mode == "ofb" else "%s-%s" % (mode, way)
+
+
 def line(mode, way, key, iv, data, out):
     """One line of a mode."""
-    return "%s-%s %s %s %s %s" % (mode, way, h(key), h(iv), h(data), h(out))
+    return "%s %s %s %s %s" % (word(mode, way), h(key), h(iv), h(data), h(out))
 
 
 def done(book, mode, way, key, iv, data, result, out):
@@ -39,8 +44,8 @@ def wrong_ivs(mode):
 
 
 def every_mode():
-    """The eight words, as (mode, way)."""
-    return [(mode, way) for mode in MODES for way in WAYS]
+    """The seven words, as (mode, way)."""
+    return [(mode, way) for mode in WHOLE_ONLY for way in WAYS] + [("ofb", "encrypt")]
 
 
 def ways(plain, cipher):
@@ -72,7 +77,8 @@ def standard(book, root):
 
 def from_file(book, root, mode, folder, name):
     """One NIST file, both sections."""
-    book.group("`%s-encrypt`, `%s-decrypt`: NIST file, both sections" % (mode, mode),
+    words = "`, `".join(sorted({word(mode, way) for way in WAYS}, reverse=True))
+    book.group("`%s`: NIST file, both sections" % words,
                "python3-cryptography-vectors, ciphers/AES/%s/%s" % (folder, name))
     for section, record in cavs(root, "ciphers/AES/%s/%s" % (folder, name)):
         key, iv, plain, cipher = (bytes.fromhex(record.get(x, "")) for x in ("KEY", "IV", "PLAINTEXT", "CIPHERTEXT"))
@@ -173,20 +179,30 @@ def order_3_4(book):
 
 
 def bad_lines(book):
-    """Lines outside the form, for each of the eight words."""
+    """Lines outside the form, for each of the seven words."""
     book.group("bad lines: words missing or too many, odd digits, no digits, two spaces, a space or a carriage return "
                "behind, upper case in the first word", "docs/CONSOLE.md")
     key, piece, out = h(KEY), h(counting(16)), h(filler(16))
     for mode, way in every_mode():
-        word, iv = "%s-%s" % (mode, way), h(right_iv(mode))
+        first, iv = word(mode, way), h(right_iv(mode))
         for rest in ([], [key], [key, iv], [key, iv, piece], [key, iv, piece, out, out], [key, iv, piece, out, "-"],
                      [key + "0", iv, piece, out], [key, "0", piece, out], [key, iv, piece[1:], out],
                      [key, iv, piece, out[1:]], [key, iv, piece[:-1] + "g", out], [key, iv, piece, "x" + out[1:]],
                      [key, iv, "", piece, out], [key, iv, piece, out, ""], [key, iv, piece, out + "\r"],
                      [key, "--", piece, out], [key, iv, piece, "+"]):
-            book.bad(" ".join([word] + rest))
-        book.bad("%s %s %s %s %s" % (word.upper(), key, iv, piece, out))
+            book.bad(" ".join([first] + rest))
+        book.bad("%s %s %s %s %s" % (first.upper(), key, iv, piece, out))
         book.bad("%s_%s %s %s %s %s" % (mode, way, key, iv, piece, out))
+
+
+def old_names(book):
+    """OFB had a word for each way: both are unknown now, with whatever would be read or refused."""
+    book.group("bad lines: `ofb-encrypt` and `ofb-decrypt`, good and refused before", "document 02, E7")
+    for way in WAYS:
+        for key, iv, size, room in ((16, 16, 16, 16), (32, 16, 17, 20), (24, 16, 0, 0), (17, 16, 16, 16), (16, 0, 16, 16),
+                                    (16, 16, 16, 15)):
+            words = " ".join(h(counting(length)) for length in (key, iv, size))
+            book.bad("ofb-%s %s %s" % (way, words, h(filler(room))))
 
 
 def long_lines(book, root):
@@ -220,6 +236,7 @@ def main(root, folder):
     order_1_2(book)
     order_3_4(book)
     bad_lines(book)
+    old_names(book)
     long_lines(book, root)
     book.write(folder)
 

@@ -4,7 +4,7 @@ import subprocess
 import sys
 
 from lines import Book, counting, filler
-from modes import KEY, WAYS, done, refused, right_iv, wrong_ivs
+from modes import KEY, done, refused, right_iv, wrong_ivs
 
 SHORT = tuple(range(50))
 LONG = (4095, 4096, 4097)
@@ -22,26 +22,25 @@ def text(size):
     return bytes((11 * i + i // 16 * 5 + 0x42) & 0xFF for i in range(size))
 
 
-def ofb(way, k, data):
-    """What OpenSSL makes of the data."""
+def ofb(k, data):
+    """What OpenSSL makes of the data, encrypting."""
     words = ["openssl", "enc", "-aes-%d-ofb" % (8 * len(k)), "-K", k.hex(), "-iv", IV.hex()]
-    words += ["-d"] if way == "decrypt" else []
     return subprocess.run(words, input=data, capture_output=True, check=True).stdout
 
 
 def lengths(book, sizes, what):
-    """Each length both ways, under three key sizes, into an output as long, a longer one and one a byte short."""
-    book.group(what + ", three key sizes, both ways, output as long, 21 bytes longer and, refused by 4, a byte short",
-               "OpenSSL; document 02, E1; document 01, refusal 4")
+    """Each length there and back, under three key sizes, into an output as long, a longer one and one a byte short."""
+    book.group(what + ", three key sizes, there and back, output as long, 21 bytes longer and, refused by 4, a byte short",
+               "OpenSSL; document 02, E1 and E7; document 01, refusal 4")
     for size in sizes:
         for k in map(key, KEY_SIZES):
-            for way in WAYS:
-                data = text(size)
-                result = ofb(way, k, data)
-                done(book, "ofb", way, k, IV, data, result, filler(size))
-                done(book, "ofb", way, k, IV, data, result, filler(size + 21))
+            plain = text(size)
+            cipher = ofb(k, plain)
+            for data, result in ((plain, cipher), (cipher, plain)):
+                done(book, "ofb", "", k, IV, data, result, filler(size))
+                done(book, "ofb", "", k, IV, data, result, filler(size + 21))
                 if size:
-                    refused(book, 4, "ofb", way, k, IV, data, filler(size - 1))
+                    refused(book, 4, "ofb", "", k, IV, data, filler(size - 1))
 
 
 def refusals(book):
@@ -49,16 +48,15 @@ def refusals(book):
     book.group("inputs of 1, 15, 17 and 33 bytes refused by 1, 2 and 4, and order: every set of two or more of them",
                "document 01, orders; document 02, E1")
     bad_key, good, bad = counting(17), right_iv("ofb"), wrong_ivs("ofb")[3]
-    for way in WAYS:
-        for data in map(counting, (1, 15, 17, 33)):
-            enough, short = filler(len(data)), filler(len(data) - 1)
-            refused(book, 1, "ofb", way, bad_key, good, data, enough)
-            refused(book, 2, "ofb", way, KEY, bad, data, enough)
-            refused(book, 4, "ofb", way, KEY, good, data, b"")
-            refused(book, 1, "ofb", way, bad_key, bad, data, enough)
-            refused(book, 1, "ofb", way, bad_key, good, data, short)
-            refused(book, 2, "ofb", way, KEY, bad, data, short)
-            refused(book, 1, "ofb", way, bad_key, bad, data, short)
+    for data in map(counting, (1, 15, 17, 33)):
+        enough, short = filler(len(data)), filler(len(data) - 1)
+        refused(book, 1, "ofb", "", bad_key, good, data, enough)
+        refused(book, 2, "ofb", "", KEY, bad, data, enough)
+        refused(book, 4, "ofb", "", KEY, good, data, b"")
+        refused(book, 1, "ofb", "", bad_key, bad, data, enough)
+        refused(book, 1, "ofb", "", bad_key, good, data, short)
+        refused(book, 2, "ofb", "", KEY, bad, data, short)
+        refused(book, 1, "ofb", "", bad_key, bad, data, short)
 
 
 def main(folder):

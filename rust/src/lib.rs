@@ -36,6 +36,8 @@ mod wrap;
 pub use check::{check, Check};
 pub use cipher::{decrypt, encrypt, product, schedule, Schedule};
 pub use image::{write, Reader, Stop, Turn};
-pub use modes::{apply, Mode, Way};
+pub use modes::{
+    cbc_decrypt, cbc_encrypt, cfb_decrypt, cfb_encrypt, ecb_decrypt, ecb_encrypt, ofb,
+};
 pub use refusal::Refusal;
 pub use wrap::{unwrap, wrap};

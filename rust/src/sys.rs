@@ -105,7 +105,7 @@ impl Reader {
     };
 }
 
-/// One of the eight calls of the modes: key, IV, input and output, each with its length.
+/// One of the seven calls of the modes: key, IV, input and output, each with its length.
 pub type ModeCall = unsafe extern "C" fn(
     *const u8,
     usize,
@@ -151,11 +151,7 @@ extern "C" {
         key: *const u8, key_length: usize, iv: *const u8, iv_length: usize,
         input: *const u8, input_length: usize, output: *mut u8, output_length: usize,
     ) -> u32;
-    pub fn dock_ofb_encrypt(
-        key: *const u8, key_length: usize, iv: *const u8, iv_length: usize,
-        input: *const u8, input_length: usize, output: *mut u8, output_length: usize,
-    ) -> u32;
-    pub fn dock_ofb_decrypt(
+    pub fn dock_ofb(
         key: *const u8, key_length: usize, iv: *const u8, iv_length: usize,
         input: *const u8, input_length: usize, output: *mut u8, output_length: usize,
     ) -> u32;

@@ -23,7 +23,7 @@ use crate::cmac::{self, RunningCheck};
 use crate::field;
 use crate::hex;
 use crate::image::{self, Reader, Turn};
-use crate::modes::{self, Mode, Way};
+use crate::modes::{self, Operation};
 use crate::refusal::{number_of, Refusal};
 use crate::wrap;
 use std::io::{self, BufRead, Read, Write};
@@ -180,23 +180,22 @@ fn check(key: &[u8], message: &[u8]) -> Option<String> {
 }
 
 fn mode_call(name: &[u8], key: &[u8], iv: &[u8], input: &[u8], output: &[u8]) -> Option<String> {
-    let (mode, way) = mode_named(name)?;
+    let operation = operation_named(name)?;
     let (key, iv, input) = (hex::read(key)?, hex::read(iv)?, hex::read(input)?);
     let mut output = hex::read(output)?;
-    let result = modes::run(mode, way, &key, &iv, &input, &mut output);
+    let result = modes::run(operation, &key, &iv, &input, &mut output);
     Some(format!("{} {}", number_of(&result), hex::shown(&output)))
 }
 
-fn mode_named(name: &[u8]) -> Option<(Mode, Way)> {
+fn operation_named(name: &[u8]) -> Option<Operation> {
     match name {
-        b"ecb-encrypt" => Some((Mode::Ecb, Way::Encrypt)),
-        b"ecb-decrypt" => Some((Mode::Ecb, Way::Decrypt)),
-        b"cbc-encrypt" => Some((Mode::Cbc, Way::Encrypt)),
-        b"cbc-decrypt" => Some((Mode::Cbc, Way::Decrypt)),
-        b"cfb-encrypt" => Some((Mode::Cfb, Way::Encrypt)),
-        b"cfb-decrypt" => Some((Mode::Cfb, Way::Decrypt)),
-        b"ofb-encrypt" => Some((Mode::Ofb, Way::Encrypt)),
-        b"ofb-decrypt" => Some((Mode::Ofb, Way::Decrypt)),
+        b"ecb-encrypt" => Some(Operation::EcbEncrypt),
+        b"ecb-decrypt" => Some(Operation::EcbDecrypt),
+        b"cbc-encrypt" => Some(Operation::CbcEncrypt),
+        b"cbc-decrypt" => Some(Operation::CbcDecrypt),
+        b"cfb-encrypt" => Some(Operation::CfbEncrypt),
+        b"cfb-decrypt" => Some(Operation::CfbDecrypt),
+        b"ofb" => Some(Operation::Ofb),
         _ => None,
     }
 }

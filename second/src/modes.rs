@@ -5,40 +5,36 @@ use crate::refusal::Refusal;
 use std::array::from_fn;
 
 #[derive(Clone, Copy, PartialEq, Eq, Debug)]
-pub enum Mode {
-    Ecb,
-    Cbc,
-    Cfb,
+pub enum Operation {
+    EcbEncrypt,
+    EcbDecrypt,
+    CbcEncrypt,
+    CbcDecrypt,
+    CfbEncrypt,
+    CfbDecrypt,
     Ofb,
 }
 
-#[derive(Clone, Copy, PartialEq, Eq, Debug)]
-pub enum Way {
-    Encrypt,
-    Decrypt,
-}
-
 pub fn run(
-    mode: Mode,
-    way: Way,
+    operation: Operation,
     key: &[u8],
     iv: &[u8],
     input: &[u8],
     output: &mut [u8],
 ) -> Result<(), Refusal> {
     let key = KeySchedule::new(key)?;
-    let iv = starting_vector(mode, iv)?;
-    let result = transform(mode, way, &key, iv, input)?;
+    let iv = starting_vector(operation, iv)?;
+    let result = transform(operation, &key, iv, input)?;
     let room = output.get_mut(..input.len()).ok_or(Refusal::OutputShort)?;
     room.copy_from_slice(&result);
     Ok(())
 }
 
-fn starting_vector(mode: Mode, iv: &[u8]) -> Result<Block, Refusal> {
-    match mode {
-        Mode::Ecb if iv.is_empty() => Ok([0; 16]),
-        Mode::Ecb => Err(Refusal::IvLength),
-        Mode::Cbc | Mode::Cfb | Mode::Ofb => iv.try_into().map_err(|_| Refusal::IvLength),
+fn starting_vector(operation: Operation, iv: &[u8]) -> Result<Block, Refusal> {
+    match operation {
+        Operation::EcbEncrypt | Operation::EcbDecrypt if iv.is_empty() => Ok([0; 16]),
+        Operation::EcbEncrypt | Operation::EcbDecrypt => Err(Refusal::IvLength),
+        _ => iv.try_into().map_err(|_| Refusal::IvLength),
     }
 }
 
@@ -50,21 +46,20 @@ fn whole_pieces(input: &[u8]) -> Result<&[Block], Refusal> {
 }
 
 fn transform(
-    mode: Mode,
-    way: Way,
+    operation: Operation,
     key: &KeySchedule,
     iv: Block,
     input: &[u8],
 ) -> Result<Vec<u8>, Refusal> {
     let pieces = whole_pieces(input);
-    let blocks: Vec<Block> = match (mode, way) {
-        (Mode::Ecb, Way::Encrypt) => pieces?.iter().map(|piece| key.encrypt(piece)).collect(),
-        (Mode::Ecb, Way::Decrypt) => pieces?.iter().map(|piece| key.decrypt(piece)).collect(),
-        (Mode::Cbc, Way::Encrypt) => cbc_encrypt(key, iv, pieces?),
-        (Mode::Cbc, Way::Decrypt) => cbc_decrypt(key, iv, pieces?),
-        (Mode::Cfb, Way::Encrypt) => cfb_encrypt(key, iv, pieces?),
-        (Mode::Cfb, Way::Decrypt) => cfb_decrypt(key, iv, pieces?),
-        (Mode::Ofb, _) => return Ok(ofb(key, iv, input)),
+    let blocks: Vec<Block> = match operation {
+        Operation::EcbEncrypt => pieces?.iter().map(|piece| key.encrypt(piece)).collect(),
+        Operation::EcbDecrypt => pieces?.iter().map(|piece| key.decrypt(piece)).collect(),
+        Operation::CbcEncrypt => cbc_encrypt(key, iv, pieces?),
+        Operation::CbcDecrypt => cbc_decrypt(key, iv, pieces?),
+        Operation::CfbEncrypt => cfb_encrypt(key, iv, pieces?),
+        Operation::CfbDecrypt => cfb_decrypt(key, iv, pieces?),
+        Operation::Ofb => return Ok(ofb(key, iv, input)),
     };
     Ok(blocks.into_flattened())
 }
@@ -133,50 +128,55 @@ mod tests {
     const IV: &str = "000102030405060708090a0b0c0d0e0f";
     const PLAIN: &str = "6bc1bee22e409f96e93d7e117393172aae2d8a571e03ac9c9eb76fac45af8e51";
 
+    const ECB: [Operation; 2] = [Operation::EcbEncrypt, Operation::EcbDecrypt];
+    const CBC: [Operation; 2] = [Operation::CbcEncrypt, Operation::CbcDecrypt];
+    const CFB: [Operation; 2] = [Operation::CfbEncrypt, Operation::CfbDecrypt];
+    const OFB: [Operation; 2] = [Operation::Ofb; 2];
+
     /// The plain text and its sealed form are cut to the length of `sealed`.
     #[track_caller]
-    fn both_ways(mode: Mode, key: &str, iv: &str, sealed: &str) {
+    fn both_ways(ways: [Operation; 2], key: &str, iv: &str, sealed: &str) {
         let plain = &PLAIN[..sealed.len()];
-        assert_eq!(answer(mode, Way::Encrypt, key, iv, plain), sealed);
-        assert_eq!(answer(mode, Way::Decrypt, key, iv, sealed), plain);
+        assert_eq!(answer(ways[0], key, iv, plain), sealed);
+        assert_eq!(answer(ways[1], key, iv, sealed), plain);
     }
 
-    fn answer(mode: Mode, way: Way, key: &str, iv: &str, input: &str) -> String {
+    fn answer(operation: Operation, key: &str, iv: &str, input: &str) -> String {
         let input = bytes(input);
         let mut output = vec![0; input.len()];
-        run(mode, way, &bytes(key), &bytes(iv), &input, &mut output).unwrap();
+        run(operation, &bytes(key), &bytes(iv), &input, &mut output).unwrap();
         shown(&output)
     }
 
     #[test]
     fn ecb_examples() {
-        both_ways(Mode::Ecb, KEYS[0], "-", "3ad77bb40d7a3660a89ecaf32466ef97");
-        both_ways(Mode::Ecb, KEYS[1], "-", "bd334f1d6e45f25ff712a214571fa5cc");
-        both_ways(Mode::Ecb, KEYS[2], "-", "f3eed1bdb5d2a03c064b5a7e3db181f8");
+        both_ways(ECB, KEYS[0], "-", "3ad77bb40d7a3660a89ecaf32466ef97");
+        both_ways(ECB, KEYS[1], "-", "bd334f1d6e45f25ff712a214571fa5cc");
+        both_ways(ECB, KEYS[2], "-", "f3eed1bdb5d2a03c064b5a7e3db181f8");
     }
 
     #[test]
     fn cbc_examples() {
         let two = "7649abac8119b246cee98e9b12e9197d5086cb9b507219ee95db113a917678b2";
-        both_ways(Mode::Cbc, KEYS[0], IV, two);
-        both_ways(Mode::Cbc, KEYS[1], IV, "4f021db243bc633d7178183a9fa071e8");
-        both_ways(Mode::Cbc, KEYS[2], IV, "f58c4c04d6e5f1ba779eabfb5f7bfbd6");
+        both_ways(CBC, KEYS[0], IV, two);
+        both_ways(CBC, KEYS[1], IV, "4f021db243bc633d7178183a9fa071e8");
+        both_ways(CBC, KEYS[2], IV, "f58c4c04d6e5f1ba779eabfb5f7bfbd6");
     }
 
     #[test]
     fn cfb_examples() {
         let two = "3b3fd92eb72dad20333449f8e83cfb4ac8a64537a0b3a93fcde3cdad9f1ce58b";
-        both_ways(Mode::Cfb, KEYS[0], IV, two);
-        both_ways(Mode::Cfb, KEYS[1], IV, "cdc80d6fddf18cab34c25909c99a4174");
-        both_ways(Mode::Cfb, KEYS[2], IV, "dc7e84bfda79164b7ecd8486985d3860");
+        both_ways(CFB, KEYS[0], IV, two);
+        both_ways(CFB, KEYS[1], IV, "cdc80d6fddf18cab34c25909c99a4174");
+        both_ways(CFB, KEYS[2], IV, "dc7e84bfda79164b7ecd8486985d3860");
     }
 
     #[test]
     fn ofb_examples() {
         let two = "3b3fd92eb72dad20333449f8e83cfb4a7789508d16918f03f53c52dac54ed825";
-        both_ways(Mode::Ofb, KEYS[0], IV, two);
-        both_ways(Mode::Ofb, KEYS[1], IV, "cdc80d6fddf18cab34c25909c99a4174");
-        both_ways(Mode::Ofb, KEYS[2], IV, "dc7e84bfda79164b7ecd8486985d3860");
+        both_ways(OFB, KEYS[0], IV, two);
+        both_ways(OFB, KEYS[1], IV, "cdc80d6fddf18cab34c25909c99a4174");
+        both_ways(OFB, KEYS[2], IV, "dc7e84bfda79164b7ecd8486985d3860");
     }
 
     /// Appendix F.4 by its leading bytes: OFB adds them one by one.
@@ -184,27 +184,20 @@ mod tests {
     fn ofb_takes_any_length() {
         let sealed = "3b3fd92eb72dad20333449f8e83cfb4a7789508d16918f03f53c52dac54ed825";
         for length in 1..=32 {
-            both_ways(Mode::Ofb, KEYS[0], IV, &sealed[..2 * length]);
+            both_ways(OFB, KEYS[0], IV, &sealed[..2 * length]);
         }
     }
 
     #[test]
     fn a_short_piece_is_refused_but_in_ofb() {
-        for (mode, iv) in [(Mode::Ecb, 0), (Mode::Cbc, 16), (Mode::Cfb, 16)] {
+        for (ways, iv) in [(ECB, 0), (CBC, 16), (CFB, 16)] {
             let mut output = [0xaa; 17];
             let (key, iv) = ([0; 16], vec![0; iv]);
-            let result = run(mode, Way::Decrypt, &key, &iv, &[0; 17], &mut output);
+            let result = run(ways[1], &key, &iv, &[0; 17], &mut output);
             assert_eq!(result, Err(Refusal::InputLength));
         }
         let mut output = [0xaa; 16];
-        let result = run(
-            Mode::Ofb,
-            Way::Decrypt,
-            &[0; 16],
-            &[0; 16],
-            &[0; 17],
-            &mut output,
-        );
+        let result = run(Operation::Ofb, &[0; 16], &[0; 16], &[0; 17], &mut output);
         assert_eq!(result, Err(Refusal::OutputShort));
         assert_eq!(output, [0xaa; 16]);
     }
@@ -220,7 +213,7 @@ mod tests {
         for ((key, iv, input, room), refusal) in lengths {
             let mut output = vec![0xaa; room];
             let (key, iv, input) = (vec![0; key], vec![0; iv], vec![0; input]);
-            let result = run(Mode::Cbc, Way::Encrypt, &key, &iv, &input, &mut output);
+            let result = run(Operation::CbcEncrypt, &key, &iv, &input, &mut output);
             assert_eq!(result, Err(refusal));
             assert_eq!(output, vec![0xaa; room]);
         }
@@ -230,26 +223,12 @@ mod tests {
     fn output_past_the_input_stays() {
         let mut output = [0xaa; 20];
         assert_eq!(
-            run(
-                Mode::Ofb,
-                Way::Decrypt,
-                &[0; 16],
-                &[0; 16],
-                &[],
-                &mut output
-            ),
+            run(Operation::Ofb, &[0; 16], &[0; 16], &[], &mut output),
             Ok(())
         );
         assert_eq!(output, [0xaa; 20]);
         assert_eq!(
-            run(
-                Mode::Ecb,
-                Way::Encrypt,
-                &[0; 16],
-                &[],
-                &[0; 16],
-                &mut output
-            ),
+            run(Operation::EcbEncrypt, &[0; 16], &[], &[0; 16], &mut output),
             Ok(())
         );
         assert_eq!(output[16..], [0xaa; 4]);

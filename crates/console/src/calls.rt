@@ -14,7 +14,7 @@ use sp800_38a::Operation;
 use wrapped::WrapCall;
 
 // A row has the name of a call, and from its place 16 on the form of its line: the letters are in args.rt.
-const ROWS: [[u8; 24]; 22] = [
+const ROWS: [[u8; 24]; 21] = [
     *b"product         .11     ",
     *b"schedule        .x      ",
     *b"encrypt         .xb     ",
@@ -25,8 +25,7 @@ const ROWS: [[u8; 24]; 22] = [
     *b"cbc-decrypt     .xxxo   ",
     *b"cfb-encrypt     .xxxo   ",
     *b"cfb-decrypt     .xxxo   ",
-    *b"ofb-encrypt     .xxxo   ",
-    *b"ofb-decrypt     .xxxo   ",
+    *b"ofb             .xxxo   ",
     *b"check           .xx     ",
     *b"check-start     .x      ",
     *b"check-feed      .x      ",
@@ -61,31 +60,30 @@ fn call_at(k: usize) -> Call {
         7 => Call::Moded(Operation::CbcDecrypt),
         8 => Call::Moded(Operation::CfbEncrypt),
         9 => Call::Moded(Operation::CfbDecrypt),
-        10 => Call::Moded(Operation::OfbEncrypt),
-        11 => Call::Moded(Operation::OfbDecrypt),
-        12 => Call::Checked(CheckCall::Whole),
-        13 => Call::Checked(CheckCall::Start),
-        14 => Call::Checked(CheckCall::Feed),
-        15 => Call::Checked(CheckCall::Close),
-        16 => Call::Imaged(ImageCall::Write),
-        17 => Call::Imaged(ImageCall::Start),
-        18 => Call::Imaged(ImageCall::Turn),
-        19 => Call::Imaged(ImageCall::Complete),
-        20 => Call::Wrapped(WrapCall::Wrap),
-        21 => Call::Wrapped(WrapCall::Unwrap),
+        10 => Call::Moded(Operation::Ofb),
+        11 => Call::Checked(CheckCall::Whole),
+        12 => Call::Checked(CheckCall::Start),
+        13 => Call::Checked(CheckCall::Feed),
+        14 => Call::Checked(CheckCall::Close),
+        15 => Call::Imaged(ImageCall::Write),
+        16 => Call::Imaged(ImageCall::Start),
+        17 => Call::Imaged(ImageCall::Turn),
+        18 => Call::Imaged(ImageCall::Complete),
+        19 => Call::Wrapped(WrapCall::Wrap),
+        20 => Call::Wrapped(WrapCall::Unwrap),
         _ => Call::Unknown,
     }
 }
 
 // No line has the form of a row past the last, since that asks for no word at all.
 fn row(k: usize) -> [u8; 24] {
-    if k < 22 { ROWS[k] } else { [32; 24] }
+    if k < 21 { ROWS[k] } else { [32; 24] }
 }
 
-// The row that has a word for its name, or 22.
+// The row that has a word for its name, or 21.
 fn row_of(w: &[u8]) -> usize {
     let mut k: usize = 0;
-    while k < 22 {
+    while k < 21 {
         if has_name(row(k), w) {
             return k;
         }

@@ -1,4 +1,4 @@
-// The lines of the modes, `MODE-WAY KEY IV IN OUT`.
+// The lines of the modes, `MODE-WAY KEY IV IN OUT` and `ofb KEY IV IN OUT`.
 use crate::args;
 use crate::print;
 use args::Args;

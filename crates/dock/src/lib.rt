@@ -16,7 +16,7 @@ ghost use Rattle.field.specs.Field.{_•_};
 ghost use Rattle.sbox.specs.Sbox.{sBox};
 ghost use Rattle.schedule.specs.Schedule.{scheduleOf};
 ghost use Rattle.cipher.specs.Calls.{encryptUnder, decryptUnder};
-ghost use Rattle.sp800_38a.specs.declared.Operation.the-variants.{EcbEncrypt, EcbDecrypt, CbcEncrypt, CbcDecrypt, CfbEncrypt, CfbDecrypt, OfbEncrypt, OfbDecrypt};
+ghost use Rattle.sp800_38a.specs.declared.Operation.the-variants.{EcbEncrypt, EcbDecrypt, CbcEncrypt, CbcDecrypt, CfbEncrypt, CfbDecrypt, Ofb};
 ghost use Rattle.modes.specs.Calls.{modeNumber, modeAnswer};
 ghost use Rattle.cmac.specs.Calls.{checkOf, startOf, fedWith, closeOf};
 ghost use Rattle.image.specs.Calls as image;
@@ -176,19 +176,11 @@ pub extern "C" fn dock_cfb_decrypt(key: &[u8], iv: &[u8], input: &[u8], output: 
 }
 
 #[no_mangle]
-pub extern "C" fn dock_ofb_encrypt(key: &[u8], iv: &[u8], input: &[u8], output: &mut [u8]) -> u32
-    ensures answer { λ r. ⌜ r ≡ modeNumber (modeAnswer OfbEncrypt (now (key .entry)) (now (iv .entry)) (now (input .entry)) (now (output .entry))) ⌝ }
-    ensures written { λ _. ⌜ now (output .exit) ≡ afterMode OfbEncrypt (now (key .entry)) (now (iv .entry)) (now (input .entry)) (now (output .entry)) ⌝ }
+pub extern "C" fn dock_ofb(key: &[u8], iv: &[u8], input: &[u8], output: &mut [u8]) -> u32
+    ensures answer { λ r. ⌜ r ≡ modeNumber (modeAnswer Ofb (now (key .entry)) (now (iv .entry)) (now (input .entry)) (now (output .entry))) ⌝ }
+    ensures written { λ _. ⌜ now (output .exit) ≡ afterMode Ofb (now (key .entry)) (now (iv .entry)) (now (input .entry)) (now (output .entry)) ⌝ }
 {
-    moded(Operation::OfbEncrypt, key, iv, input, output)
-}
-
-#[no_mangle]
-pub extern "C" fn dock_ofb_decrypt(key: &[u8], iv: &[u8], input: &[u8], output: &mut [u8]) -> u32
-    ensures answer { λ r. ⌜ r ≡ modeNumber (modeAnswer OfbDecrypt (now (key .entry)) (now (iv .entry)) (now (input .entry)) (now (output .entry))) ⌝ }
-    ensures written { λ _. ⌜ now (output .exit) ≡ afterMode OfbDecrypt (now (key .entry)) (now (iv .entry)) (now (input .entry)) (now (output .entry)) ⌝ }
-{
-    moded(Operation::OfbDecrypt, key, iv, input, output)
+    moded(Operation::Ofb, key, iv, input, output)
 }
 
 #[no_mangle]

@@ -1,4 +1,4 @@
-// The modes of SP 800-38A under a key, each way: ECB, CBC and CFB with 16-byte segments on whole pieces of 16 bytes, OFB on any length.
+// The modes of SP 800-38A under a key: ECB, CBC and CFB with 16-byte segments each way, on whole pieces of 16 bytes, and OFB on any length.
 use blocks::load;
 use cipher::inverse_words;
 use pieces::any_length;
@@ -90,7 +90,7 @@ fn under_schedule(
     pieces::run(&table, words, rounds, operation, iv, input, output)
 }
 
-// Whether an operation uses the inverse cipher: decryption in CFB and OFB does not.
+// Whether an operation uses the inverse cipher: decryption in CFB does not, nor does OFB.
 fn inverts(operation: Operation) -> bool
     ensures { λ r. ⌜ r ≡ standard.inverts operation ⌝ }
 {
@@ -101,8 +101,7 @@ fn inverts(operation: Operation) -> bool
         Operation::CbcDecrypt => true,
         Operation::CfbEncrypt => false,
         Operation::CfbDecrypt => false,
-        Operation::OfbEncrypt => false,
-        Operation::OfbDecrypt => false,
+        Operation::Ofb => false,
     }
 }
 
@@ -147,7 +146,6 @@ fn wanted_iv(operation: Operation) -> usize
         Operation::CbcDecrypt => 16,
         Operation::CfbEncrypt => 16,
         Operation::CfbDecrypt => 16,
-        Operation::OfbEncrypt => 16,
-        Operation::OfbDecrypt => 16,
+        Operation::Ofb => 16,
     }
 }

@@ -16,7 +16,7 @@ use Rattle.lookups.proofs.Lawful.{Agree}
 use Rattle.sp800_38a.specs.Pieces.{outputOf, after, pieceCount}
 use Rattle.sp800_38a.specs.Modes.{machine, inverts, ivLength, anyLength, Unless, moded}
 use Rattle.sp800_38a.specs.declared.Operation.{Operation}
-use Rattle.sp800_38a.specs.declared.Operation.the-variants.{EcbEncrypt, EcbDecrypt, CbcEncrypt, CbcDecrypt, CfbEncrypt, CfbDecrypt, OfbEncrypt, OfbDecrypt}
+use Rattle.sp800_38a.specs.declared.Operation.the-variants.{EcbEncrypt, EcbDecrypt, CbcEncrypt, CbcDecrypt, CfbEncrypt, CfbDecrypt, Ofb}
 use Rattle.sp800_38a.proofs.Undo.{ChainOf}
 use Rattle.sp800_38a.proofs.Sixteen.{pieces-16, length-16}
 use Rattle.sp800_38a.proofs.Same.{moded-same, handed-same}
@@ -30,8 +30,7 @@ forward-only t b w v nr CbcEncrypt e = refl
 forward-only t b w v nr CbcDecrypt e = absurd (true≢false e)
 forward-only t b w v nr CfbEncrypt e = refl
 forward-only t b w v nr CfbDecrypt e = refl
-forward-only t b w v nr OfbEncrypt e = refl
-forward-only t b w v nr OfbDecrypt e = refl
+forward-only t b w v nr Ofb e = refl
 
 backward-only : (t b w v : List ℕ) (nr : ℕ) (o : Operation) → inverts o ≡ true → machine (oneTable b v nr) o ≡ machine (tableCipher t b w v nr) o
 backward-only t b w v nr EcbEncrypt e = absurd (true≢false (sym e))
@@ -40,8 +39,7 @@ backward-only t b w v nr CbcEncrypt e = absurd (true≢false (sym e))
 backward-only t b w v nr CbcDecrypt e = refl
 backward-only t b w v nr CfbEncrypt e = absurd (true≢false (sym e))
 backward-only t b w v nr CfbDecrypt e = absurd (true≢false (sym e))
-backward-only t b w v nr OfbEncrypt e = absurd (true≢false (sym e))
-backward-only t b w v nr OfbDecrypt e = absurd (true≢false (sym e))
+backward-only t b w v nr Ofb e = absurd (true≢false (sym e))
 
 module _ (t b w v : List ℕ) (nr : ℕ) (o : Operation) (iv inp out : List ℕ) where
   pub through-forward : inverts o ≡ false → runOver (oneTable t w nr) o iv inp out ≡ runOver (tableCipher t b w v nr) o iv inp out
@@ -52,16 +50,15 @@ module _ (t b w v : List ℕ) (nr : ℕ) (o : Operation) (iv inp out : List ℕ)
   unfolding runOver
   through-backward e = rw (backward-only t b w v nr o e)
 
--- where any length goes, both ways are the same machine
-pub any-length-ofb : (c : BlockCipher) (o : Operation) → anyLength o ≡ true → machine c o ≡ machine c OfbEncrypt
-any-length-ofb c EcbEncrypt e = absurd (true≢false (sym e))
-any-length-ofb c EcbDecrypt e = absurd (true≢false (sym e))
-any-length-ofb c CbcEncrypt e = absurd (true≢false (sym e))
-any-length-ofb c CbcDecrypt e = absurd (true≢false (sym e))
-any-length-ofb c CfbEncrypt e = absurd (true≢false (sym e))
-any-length-ofb c CfbDecrypt e = absurd (true≢false (sym e))
-any-length-ofb c OfbEncrypt e = refl
-any-length-ofb c OfbDecrypt e = refl
+-- any length goes in OFB alone
+pub any-length-ofb : (o : Operation) → anyLength o ≡ true → o ≡ Ofb
+any-length-ofb EcbEncrypt e = absurd (true≢false (sym e))
+any-length-ofb EcbDecrypt e = absurd (true≢false (sym e))
+any-length-ofb CbcEncrypt e = absurd (true≢false (sym e))
+any-length-ofb CbcDecrypt e = absurd (true≢false (sym e))
+any-length-ofb CfbEncrypt e = absurd (true≢false (sym e))
+any-length-ofb CfbDecrypt e = absurd (true≢false (sym e))
+any-length-ofb Ofb e = refl
 
 -- ---- the IV
 
@@ -86,8 +83,7 @@ iv-chain CbcEncrypt iv e b = block-octets iv 0 (omega arith) b
 iv-chain CbcDecrypt iv e b = block-octets iv 0 (omega arith) b
 iv-chain CfbEncrypt iv e b = block-octets iv 0 (omega arith) b
 iv-chain CfbDecrypt iv e b = block-octets iv 0 (omega arith) b
-iv-chain OfbEncrypt iv e b = block-octets iv 0 (omega arith) b
-iv-chain OfbDecrypt iv e b = block-octets iv 0 (omega arith) b
+iv-chain Ofb iv e b = block-octets iv 0 (omega arith) b
 
 pub iv-is-chain : (o : Operation) (iv : List ℕ) → length iv ≡ ivLength 16 o → Bytes iv → ChainOf 16 o iv
 iv-is-chain EcbEncrypt iv e b = tt
@@ -96,8 +92,7 @@ iv-is-chain CbcEncrypt iv e b = record { size = e; bytes = b }
 iv-is-chain CbcDecrypt iv e b = record { size = e; bytes = b }
 iv-is-chain CfbEncrypt iv e b = record { size = e; bytes = b }
 iv-is-chain CfbDecrypt iv e b = record { size = e; bytes = b }
-iv-is-chain OfbEncrypt iv e b = record { size = e; bytes = b }
-iv-is-chain OfbDecrypt iv e b = record { size = e; bytes = b }
+iv-is-chain Ofb iv e b = record { size = e; bytes = b }
 
 module _ (c : BlockCipher) (iv : List ℕ) (n : ℕ) (s : List ℕ) where
   block-iv : (o : Operation) → length iv ≡ 16 → outputOf 16 (machine c o) (blockAt iv 0) n s ≡ outputOf 16 (machine c o) iv n s
@@ -110,8 +105,7 @@ module _ (c : BlockCipher) (iv : List ℕ) (n : ℕ) (s : List ℕ) where
   iv-same CbcDecrypt e = block-iv CbcDecrypt e
   iv-same CfbEncrypt e = block-iv CfbEncrypt e
   iv-same CfbDecrypt e = block-iv CfbDecrypt e
-  iv-same OfbEncrypt e = block-iv OfbEncrypt e
-  iv-same OfbDecrypt e = block-iv OfbDecrypt e
+  iv-same Ofb e = block-iv Ofb e
 
 -- ---- an input that a run takes whole
 

@@ -6,7 +6,7 @@ use Prim.Native.Nat.{ℕ}
 use types.Run.{OneOf, miss}
 use denote.Enum.Declared.{tagOf}
 use Rattle.sp800_38a.specs.declared.Operation.{Operation}
-use Rattle.sp800_38a.specs.declared.Operation.the-variants.{EcbEncrypt, EcbDecrypt, CbcEncrypt, CbcDecrypt, CfbEncrypt, CfbDecrypt, OfbEncrypt, OfbDecrypt}
+use Rattle.sp800_38a.specs.declared.Operation.the-variants.{EcbEncrypt, EcbDecrypt, CbcEncrypt, CbcDecrypt, CfbEncrypt, CfbDecrypt, Ofb}
 use Rattle.sp800_38a.proofs.Operation.{the-type}
 use Rattle.pieces.specs.Runs.{goesInPairs}
 use Rattle.pieces.specs.declared.pairs.SteppedTwo.{SteppedTwo}
@@ -18,12 +18,11 @@ pub same-stepped : {a b n a' b' n' : List ℕ} → a ≡ a' → b ≡ b' → n �
 same-stepped p q u = rw (p, q, u)
 
 -- the one operation of those in pairs that is not named before
-pub cfb-left : (o : Operation) → OneOf (2 ∷ 4 ∷ 5 ∷ 6 ∷ 7 ∷ []) (tagOf the-type o) → goesInPairs o ≡ true → o ≡ CfbDecrypt
-cfb-left EcbEncrypt h e = absurd (miss (2 ∷ 4 ∷ 5 ∷ 6 ∷ 7 ∷ []) 0 tt h)
-cfb-left EcbDecrypt h e = absurd (miss (2 ∷ 4 ∷ 5 ∷ 6 ∷ 7 ∷ []) 1 tt h)
+pub cfb-left : (o : Operation) → OneOf (2 ∷ 4 ∷ 5 ∷ 6 ∷ []) (tagOf the-type o) → goesInPairs o ≡ true → o ≡ CfbDecrypt
+cfb-left EcbEncrypt h e = absurd (miss (2 ∷ 4 ∷ 5 ∷ 6 ∷ []) 0 tt h)
+cfb-left EcbDecrypt h e = absurd (miss (2 ∷ 4 ∷ 5 ∷ 6 ∷ []) 1 tt h)
 cfb-left CbcEncrypt h e = absurd (true≢false (sym e))
-cfb-left CbcDecrypt h e = absurd (miss (2 ∷ 4 ∷ 5 ∷ 6 ∷ 7 ∷ []) 3 tt h)
+cfb-left CbcDecrypt h e = absurd (miss (2 ∷ 4 ∷ 5 ∷ 6 ∷ []) 3 tt h)
 cfb-left CfbEncrypt h e = absurd (true≢false (sym e))
 cfb-left CfbDecrypt h e = refl
-cfb-left OfbEncrypt h e = absurd (true≢false (sym e))
-cfb-left OfbDecrypt h e = absurd (true≢false (sym e))
+cfb-left Ofb h e = absurd (true≢false (sym e))

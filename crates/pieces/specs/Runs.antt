@@ -9,7 +9,7 @@ use Rattle.octets.specs.Blocks.{BlockCipher}
 use Rattle.sp800_38a.specs.Pieces.{Machine, ranThrough}
 use Rattle.sp800_38a.specs.Modes.{machine, anyLength}
 use Rattle.sp800_38a.specs.declared.Operation.{Operation}
-use Rattle.sp800_38a.specs.declared.Operation.the-variants.{EcbEncrypt, EcbDecrypt, CbcEncrypt, CbcDecrypt, CfbEncrypt, CfbDecrypt, OfbEncrypt, OfbDecrypt}
+use Rattle.sp800_38a.specs.declared.Operation.the-variants.{EcbEncrypt, EcbDecrypt, CbcEncrypt, CbcDecrypt, CfbEncrypt, CfbDecrypt, Ofb}
 use Rattle.pieces.specs.declared.pairs.SteppedTwo.{SteppedTwo}
 
 abbrev pub stepsOf : Machine → List ℕ → List ℕ → List ℕ → SteppedTwo
@@ -23,8 +23,7 @@ goesInPairs CbcEncrypt = false
 goesInPairs CbcDecrypt = true
 goesInPairs CfbEncrypt = false
 goesInPairs CfbDecrypt = true
-goesInPairs OfbEncrypt = false
-goesInPairs OfbDecrypt = false
+goesInPairs Ofb = false
 
 -- how many bytes of the input a run takes, of those that input and output both have: all where any length goes, else those of whole pieces
 unfoldable pub reach : Operation → ℕ → ℕ → ℕ

@@ -1,33 +1,31 @@
-// The pieces of an input of any length, in OFB: of the last cipher output a short last piece takes the leading bytes.
+// OFB on an input of any length: of the last cipher output a short last piece takes the leading bytes.
 use crate::in_order;
 use rounds::encrypt_block;
 use sp800_38a::Operation;
 ghost use mathlib.Core.Path.{_≡_};
-ghost use mathlib.Core.Bool.{true};
 ghost use Prim.Native.Nat.{_≤_};
 ghost use lib.ListN.{length, take};
 ghost use Rattle.octets.specs.Blocks.{_⊕_};
 ghost use Rattle.lookups.specs.Lookups.{oneTable};
 ghost use Rattle.sp800_38a.specs.Pieces.{ranThrough};
-ghost use Rattle.sp800_38a.specs.Modes.{machine, anyLength};
-ghost use Rattle.sp800_38a.specs.declared.Operation.the-variants.{OfbEncrypt};
+ghost use Rattle.sp800_38a.specs.Modes.{machine};
+ghost use Rattle.sp800_38a.specs.declared.Operation.the-variants.{Ofb};
 
 // The pieces of the first bytes of the input, as many as asked.
 pub fn to_the_end(
     table: &[u32; 256],
     words: &[u32; 60],
     rounds: usize,
-    operation: Operation,
     iv: [u8; 16],
     end: usize,
     input: &[u8],
     output: &mut [u8],
 ) -> [u8; 16]
-    requires { ⌜ (anyLength operation ≡ true) × (end ≤ length (now input)) × (end ≤ length (now output)) ⌝ }
-    ensures { λ r. ⌜ (r, now (output .exit)) ≡ ranThrough 16 (machine (oneTable (now (table .entry)) (now (words .entry)) rounds) operation) iv (take end (now (input .entry))) (now (output .entry)) ⌝ }
+    requires { ⌜ (end ≤ length (now input)) × (end ≤ length (now output)) ⌝ }
+    ensures { λ r. ⌜ (r, now (output .exit)) ≡ ranThrough 16 (machine (oneTable (now (table .entry)) (now (words .entry)) rounds) Ofb) iv (take end (now (input .entry))) (now (output .entry)) ⌝ }
 {
     let n = end / 16;
-    let chain = in_order(table, words, rounds, operation, iv, n, input, output);
+    let chain = in_order(table, words, rounds, Operation::Ofb, iv, n, input, output);
     let at = n * 16;
     last_piece(
         table,
@@ -49,7 +47,7 @@ fn last_piece(
     output: &mut [u8],
 ) -> [u8; 16]
     requires { ⌜ (length (now output) ≡ length (now input)) × (length (now input) ≤ 16) ⌝ }
-    ensures { λ r. ⌜ (r, now (output .exit)) ≡ ranThrough 16 (machine (oneTable (now (table .entry)) (now (words .entry)) rounds) OfbEncrypt) chain (now (input .entry)) (now (output .entry)) ⌝ }
+    ensures { λ r. ⌜ (r, now (output .exit)) ≡ ranThrough 16 (machine (oneTable (now (table .entry)) (now (words .entry)) rounds) Ofb) chain (now (input .entry)) (now (output .entry)) ⌝ }
 {
     if input.len() == 0 {
         return chain;

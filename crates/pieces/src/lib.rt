@@ -33,7 +33,7 @@ pub fn run(
 {
     let both = shorter(input.len(), output.len());
     if any_length(operation) {
-        return to_the_end(table, words, rounds, operation, iv, both, input, output);
+        return to_the_end(table, words, rounds, iv, both, input, output);
     }
     let n = both / 16;
     if goes_in_pairs(operation) {
@@ -53,8 +53,7 @@ pub fn any_length(operation: Operation) -> bool
         Operation::CbcDecrypt => false,
         Operation::CfbEncrypt => false,
         Operation::CfbDecrypt => false,
-        Operation::OfbEncrypt => true,
-        Operation::OfbDecrypt => true,
+        Operation::Ofb => true,
     }
 }
 

@@ -31,8 +31,7 @@ pub fn goes_in_pairs(operation: Operation) -> bool
         Operation::CbcDecrypt => true,
         Operation::CfbEncrypt => false,
         Operation::CfbDecrypt => true,
-        Operation::OfbEncrypt => false,
-        Operation::OfbDecrypt => false,
+        Operation::Ofb => false,
     }
 }
 

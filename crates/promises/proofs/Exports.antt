@@ -17,7 +17,7 @@ use denote.Ref.{RefT, now}
 use lib.Dec.{eqb}
 use Rattle.modes.specs.Calls.{modeNumber, modeAnswer}
 use Rattle.sp800_38a.specs.declared.Operation.{Operation}
-use Rattle.sp800_38a.specs.declared.Operation.the-variants.{EcbEncrypt, EcbDecrypt, CbcEncrypt, CbcDecrypt, CfbEncrypt, CfbDecrypt, OfbEncrypt, OfbDecrypt}
+use Rattle.sp800_38a.specs.declared.Operation.the-variants.{EcbEncrypt, EcbDecrypt, CbcEncrypt, CbcDecrypt, CfbEncrypt, CfbDecrypt, Ofb}
 use Rattle.image.specs.Calls.{startOf, turnOf, writeNumber, completionNumber}
 use Rattle.image.specs.declared.Reader.{Reader}
 use Rattle.image.specs.declared.Stop.{Stop}
@@ -58,8 +58,7 @@ use Rattle.dock.proofs.dock_cbc_encrypt.Reads as dock-cbc-encrypt
 use Rattle.dock.proofs.dock_cbc_decrypt.Reads as dock-cbc-decrypt
 use Rattle.dock.proofs.dock_cfb_encrypt.Reads as dock-cfb-encrypt
 use Rattle.dock.proofs.dock_cfb_decrypt.Reads as dock-cfb-decrypt
-use Rattle.dock.proofs.dock_ofb_encrypt.Reads as dock-ofb-encrypt
-use Rattle.dock.proofs.dock_ofb_decrypt.Reads as dock-ofb-decrypt
+use Rattle.dock.proofs.dock_ofb.Reads as dock-ofb
 use Rattle.dock.proofs.dock_check.Reads as dock-check
 use Rattle.dock.proofs.dock_check_start.Reads as dock-check-start
 use Rattle.dock.proofs.dock_check_feed as dock-check-feed
@@ -218,31 +217,18 @@ dock-cfb-decrypt-is-apply κs a r s p = applied CfbDecrypt κs a r s (p .0) (p .
 pub dock-cfb-decrypt-refused-keeps : (κs : _) (a : _) (r : _) (s : _) → dock-cfb-decrypt.Post κs a r s → (r ≡ 0 → ⊥) → now (s .1 .1 .1 .0) ≡ now (a .1 .1 .1 .0)
 dock-cfb-decrypt-refused-keeps κs a r s p h = apply-keeps CfbDecrypt κs a r s (dock-cfb-decrypt-is-apply κs a r s p) h
 
-pub dock-ofb-encrypt-asks-nothing : (κs : _) (a : _) → dock-ofb-encrypt.Asked κs a
-dock-ofb-encrypt-asks-nothing κs a = tt
+pub dock-ofb-asks-nothing : (κs : _) (a : _) → dock-ofb.Asked κs a
+dock-ofb-asks-nothing κs a = tt
 
-pub dock-ofb-encrypt-determined : (κs : _) (a : _) (r r′ : _) (s s′ : _) → dock-ofb-encrypt.Post κs a r s → dock-ofb-encrypt.Post κs a r′ s′
+pub dock-ofb-determined : (κs : _) (a : _) (r r′ : _) (s s′ : _) → dock-ofb.Post κs a r s → dock-ofb.Post κs a r′ s′
     → (r ≡ r′) × (now (s .1 .1 .1 .0) ≡ now (s′ .1 .1 .1 .0))
-dock-ofb-encrypt-determined κs a r r′ s s′ p q = (p .0 ∙ sym (q .0), p .1 ∙ sym (q .1))
+dock-ofb-determined κs a r r′ s s′ p q = (p .0 ∙ sym (q .0), p .1 ∙ sym (q .1))
 
-pub dock-ofb-encrypt-is-apply : (κs : _) (a : _) (r : _) (s : _) → dock-ofb-encrypt.Post κs a r s → AsApply OfbEncrypt κs a r s
-dock-ofb-encrypt-is-apply κs a r s p = applied OfbEncrypt κs a r s (p .0) (p .1)
+pub dock-ofb-is-apply : (κs : _) (a : _) (r : _) (s : _) → dock-ofb.Post κs a r s → AsApply Ofb κs a r s
+dock-ofb-is-apply κs a r s p = applied Ofb κs a r s (p .0) (p .1)
 
-pub dock-ofb-encrypt-refused-keeps : (κs : _) (a : _) (r : _) (s : _) → dock-ofb-encrypt.Post κs a r s → (r ≡ 0 → ⊥) → now (s .1 .1 .1 .0) ≡ now (a .1 .1 .1 .0)
-dock-ofb-encrypt-refused-keeps κs a r s p h = apply-keeps OfbEncrypt κs a r s (dock-ofb-encrypt-is-apply κs a r s p) h
-
-pub dock-ofb-decrypt-asks-nothing : (κs : _) (a : _) → dock-ofb-decrypt.Asked κs a
-dock-ofb-decrypt-asks-nothing κs a = tt
-
-pub dock-ofb-decrypt-determined : (κs : _) (a : _) (r r′ : _) (s s′ : _) → dock-ofb-decrypt.Post κs a r s → dock-ofb-decrypt.Post κs a r′ s′
-    → (r ≡ r′) × (now (s .1 .1 .1 .0) ≡ now (s′ .1 .1 .1 .0))
-dock-ofb-decrypt-determined κs a r r′ s s′ p q = (p .0 ∙ sym (q .0), p .1 ∙ sym (q .1))
-
-pub dock-ofb-decrypt-is-apply : (κs : _) (a : _) (r : _) (s : _) → dock-ofb-decrypt.Post κs a r s → AsApply OfbDecrypt κs a r s
-dock-ofb-decrypt-is-apply κs a r s p = applied OfbDecrypt κs a r s (p .0) (p .1)
-
-pub dock-ofb-decrypt-refused-keeps : (κs : _) (a : _) (r : _) (s : _) → dock-ofb-decrypt.Post κs a r s → (r ≡ 0 → ⊥) → now (s .1 .1 .1 .0) ≡ now (a .1 .1 .1 .0)
-dock-ofb-decrypt-refused-keeps κs a r s p h = apply-keeps OfbDecrypt κs a r s (dock-ofb-decrypt-is-apply κs a r s p) h
+pub dock-ofb-refused-keeps : (κs : _) (a : _) (r : _) (s : _) → dock-ofb.Post κs a r s → (r ≡ 0 → ⊥) → now (s .1 .1 .1 .0) ≡ now (a .1 .1 .1 .0)
+dock-ofb-refused-keeps κs a r s p h = apply-keeps Ofb κs a r s (dock-ofb-is-apply κs a r s p) h
 
 -- ---- the check
 

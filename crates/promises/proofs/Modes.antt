@@ -23,7 +23,7 @@ use Rattle.sp800_38a.specs.Pieces.{outputOf, after, pieceCount}
 use Rattle.sp800_38a.specs.Modes.{machine, other, inverts, ivLength, anyLength, Unless, moded}
 use Rattle.sp800_38a.specs.Equations.{Equation}
 use Rattle.sp800_38a.specs.declared.Operation.{Operation}
-use Rattle.sp800_38a.specs.declared.Operation.the-variants.{EcbEncrypt, EcbDecrypt, CbcEncrypt, CbcDecrypt, CfbEncrypt, CfbDecrypt, OfbEncrypt, OfbDecrypt}
+use Rattle.sp800_38a.specs.declared.Operation.the-variants.{EcbEncrypt, EcbDecrypt, CbcEncrypt, CbcDecrypt, CfbEncrypt, CfbDecrypt, Ofb}
 use Rattle.sp800_38a.proofs.Undo.{ChainOf, moded-undone}
 use Rattle.sp800_38a.proofs.Sixteen.{pieces-16, length-16, undone-16}
 use Rattle.sp800_38a.proofs.Equations.{equation}
@@ -251,20 +251,20 @@ run-is-the-mode κs a r s p w known l g b h room =
     let e = q ∙ through-mode c (standard w nr) (lent-agrees w nr) (aes-lawful w nr known) o iv inp g b h out room in
     (ap (λ (x : List ℕ × List ℕ). x .0) e, ap (λ (x : List ℕ × List ℕ). x .1) e)
 
--- ---- demand 3: each way of each mode undoes the other, on whole pieces; in OFB on every length
+-- ---- demand 3: every operation is undone by the other way of its mode, on whole pieces; OFB by itself, on every length
 
 -- for the definitions, over every lawful block cipher of any width, on n whole pieces where those are asked
-pub each-way-undoes-the-other : (z : ℕ) (c : BlockCipher) → Lawful z c → (o : Operation) (n : ℕ) (iv s : List ℕ) → 0 < z → ChainOf z o iv → Bytes s
+pub each-operation-is-undone : (z : ℕ) (c : BlockCipher) → Lawful z c → (o : Operation) (n : ℕ) (iv s : List ℕ) → 0 < z → ChainOf z o iv → Bytes s
     → Unless (anyLength o) (length s ≡ n * z)
     → moded z c (other o) iv (moded z c o iv s) ≡ s
-each-way-undoes-the-other z c l o n iv s h g b e = moded-undone z c l o n iv s h g b e
+each-operation-is-undone z c l o n iv s h g b e = moded-undone z c l o n iv s h g b e
 
--- OFB, whose other way is the same machine, at every length
-pub ofb-undoes-at-every-length : (z : ℕ) (c : BlockCipher) → Lawful z c → (iv s : List ℕ) → 0 < z → Octets z iv → Bytes s
-    → (moded z c OfbDecrypt iv (moded z c OfbEncrypt iv s) ≡ s) × (moded z c OfbEncrypt iv (moded z c OfbDecrypt iv s) ≡ s)
-ofb-undoes-at-every-length z c l iv s h g b = (moded-undone z c l OfbEncrypt 0 iv s h g b tt, moded-undone z c l OfbDecrypt 0 iv s h g b tt)
+-- OFB twice, at every length
+pub ofb-undoes-itself : (z : ℕ) (c : BlockCipher) → Lawful z c → (iv s : List ℕ) → 0 < z → Octets z iv → Bytes s
+    → moded z c Ofb iv (moded z c Ofb iv s) ≡ s
+ofb-undoes-itself z c l iv s h g b = moded-undone z c l Ofb 0 iv s h g b tt
 
--- both ways of a mode take the same lengths of IV and input
+-- an operation and the one that undoes it take the same lengths of IV and input
 other-takes : (o : Operation) → (ivLength 16 o ≡ ivLength 16 (other o)) × (anyLength (other o) ≡ anyLength o)
 other-takes EcbEncrypt = (refl, refl)
 other-takes EcbDecrypt = (refl, refl)
@@ -272,10 +272,9 @@ other-takes CbcEncrypt = (refl, refl)
 other-takes CbcDecrypt = (refl, refl)
 other-takes CfbEncrypt = (refl, refl)
 other-takes CfbDecrypt = (refl, refl)
-other-takes OfbEncrypt = (refl, refl)
-other-takes OfbDecrypt = (refl, refl)
+other-takes Ofb = (refl, refl)
 
--- for the calls: the other way, under the same key and IV, over what a call that fits wrote, writes what that call was given
+-- for the calls: what undoes an operation, under the same key and IV, over what a call that fits wrote, writes what that call was given
 pub apply-undoes-apply : (κs : _) (a : _) (r : _) (s : _) → apply.Post κs a r s → (κs′ : _) (a′ : _) (r′ : _) (s′ : _) → apply.Post κs′ a′ r′ s′
     → Fit (a .0) (now (a .1 .0)) (now (a .1 .1 .0)) (now (a .1 .1 .1 .0)) (now (a .1 .1 .1 .1 .0))
     → a′ .0 ≡ other (a .0) → now (a′ .1 .0) ≡ now (a .1 .0) → now (a′ .1 .1 .0) ≡ now (a .1 .1 .0)
@@ -297,3 +296,14 @@ apply-undoes-apply κs a r s p κs′ a′ r′ s′ q f eo ek ei es room bi bs 
     let d : r′ ≡ Done = fit-done _ _ _ _ _ f′ r′ (apply-as-told κs′ a′ r′ s′ q) in
     let over-is : now (s′ .1 .1 .1 .1 .0) ≡ over inp out′ = q .1 ∙ rw (d, eo, ek, ei, made-is, back o key iv inp out bi bs f) in
     ap (take (length inp)) over-is ∙ take-at inp (drop (length inp) out′) (length inp) refl
+
+-- two calls of OFB with one key and IV, of any length, return the input
+pub ofb-twice-returns-the-input : (κs : _) (a : _) (r : _) (s : _) → apply.Post κs a r s → (κs′ : _) (a′ : _) (r′ : _) (s′ : _) → apply.Post κs′ a′ r′ s′
+    → a .0 ≡ Ofb → a′ .0 ≡ Ofb → KeyTaken (now (a .1 .0)) → length (now (a .1 .1 .0)) ≡ 16 → length (now (a .1 .1 .1 .0)) ≤ length (now (a .1 .1 .1 .1 .0))
+    → now (a′ .1 .0) ≡ now (a .1 .0) → now (a′ .1 .1 .0) ≡ now (a .1 .1 .0)
+    → now (a′ .1 .1 .1 .0) ≡ take (length (now (a .1 .1 .1 .0))) (now (s .1 .1 .1 .1 .0)) → length (now (a .1 .1 .1 .0)) ≤ length (now (a′ .1 .1 .1 .1 .0))
+    → Bytes (now (a .1 .1 .0)) → Bytes (now (a .1 .1 .1 .0)) → take (length (now (a .1 .1 .1 .0))) (now (s′ .1 .1 .1 .1 .0)) ≡ now (a .1 .1 .1 .0)
+ofb-twice-returns-the-input κs a r s p κs′ a′ r′ s′ q eo eo′ key iv room ek ei es room′ bi bs =
+    let f : Fit (a .0) (now (a .1 .0)) (now (a .1 .1 .0)) (now (a .1 .1 .1 .0)) (now (a .1 .1 .1 .1 .0)) =
+    rw eo (record { key-taken = key; iv-right = iv; pieces = tt; room = room }) in
+    apply-undoes-apply κs a r s p κs′ a′ r′ s′ q f (eo′ ∙ ap other (sym eo)) ek ei es room′ bi bs

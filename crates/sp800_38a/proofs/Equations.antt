@@ -11,7 +11,7 @@ use Rattle.sp800_38a.specs.Pieces.{Machine, outputOf, after, piece, piec
 use Rattle.sp800_38a.specs.Modes.{machine, anyLength, Unless, moded}
 use Rattle.sp800_38a.specs.Equations.{previous, outputBlock, Equation}
 use Rattle.sp800_38a.specs.declared.Operation.{Operation}
-use Rattle.sp800_38a.specs.declared.Operation.the-variants.{EcbEncrypt, EcbDecrypt, CbcEncrypt, CbcDecrypt, CfbEncrypt, CfbDecrypt, OfbEncrypt, OfbDecrypt}
+use Rattle.sp800_38a.specs.declared.Operation.the-variants.{EcbEncrypt, EcbDecrypt, CbcEncrypt, CbcDecrypt, CfbEncrypt, CfbDecrypt, Ofb}
 use Rattle.sp800_38a.proofs.Pieces.{piece-suc, piece-zero, after-more, Each, Keeps, made-length, below-count}
 use Rattle.sp800_38a.proofs.Undo.{ChainOf, PieceOf, first-of, keeps, whole}
 
@@ -76,5 +76,4 @@ module _ (z : ℕ) (c : BlockCipher) (l : Lawful z c) (n : ℕ) (some : 0 < z) (
   equation CbcDecrypt g e i k = came-out CbcDecrypt g e i k ∙ ap (λ (x : List ℕ). c .dec (piece z inp i) ⊕ x) (chained-in CbcDecrypt g e (λ st p. refl) i)
   equation CfbEncrypt g e i k = came-out CfbEncrypt g e i k ∙ ap (λ (x : List ℕ). piece z inp i ⊕ c .enc x) (chained-out CfbEncrypt g e (λ st p. refl) i k)
   equation CfbDecrypt g e i k = came-out CfbDecrypt g e i k ∙ ap (λ (x : List ℕ). piece z inp i ⊕ c .enc x) (chained-in CfbDecrypt g e (λ st p. refl) i)
-  equation OfbEncrypt g e i k = came-out OfbEncrypt g e i k ∙ ap (λ (x : List ℕ). piece z inp i ⊕ c .enc x) (enciphered OfbEncrypt g e (λ st p. refl) i)
-  equation OfbDecrypt g e i k = came-out OfbDecrypt g e i k ∙ ap (λ (x : List ℕ). piece z inp i ⊕ c .enc x) (enciphered OfbDecrypt g e (λ st p. refl) i)
+  equation Ofb g e i k = came-out Ofb g e i k ∙ ap (λ (x : List ℕ). piece z inp i ⊕ c .enc x) (enciphered Ofb g e (λ st p. refl) i)

@@ -9,7 +9,7 @@ use Rattle.octets.proofs.Blocks.{⊕-octets}
 use Rattle.sp800_38a.specs.Pieces.{after, pieceCount}
 use Rattle.sp800_38a.specs.Modes.{machine, anyLength, Unless, moded}
 use Rattle.sp800_38a.specs.declared.Operation.{Operation}
-use Rattle.sp800_38a.specs.declared.Operation.the-variants.{EcbEncrypt, EcbDecrypt, CbcEncrypt, CbcDecrypt, CfbEncrypt, CfbDecrypt, OfbEncrypt, OfbDecrypt}
+use Rattle.sp800_38a.specs.declared.Operation.the-variants.{EcbEncrypt, EcbDecrypt, CbcEncrypt, CbcDecrypt, CfbEncrypt, CfbDecrypt, Ofb}
 use Rattle.sp800_38a.proofs.Pieces.{made-same, after-same}
 use Rattle.sp800_38a.proofs.Undo.{ChainOf, PieceOf, keeps, whole}
 
@@ -21,8 +21,7 @@ module _ (z : ℕ) (c d : BlockCipher) (enc-same : (x : List ℕ) → Octets z x
   out-same CbcDecrypt st p g h = ap (_⊕ st) (dec-same p h)
   out-same CfbEncrypt st p g h = ap (p ⊕_) (enc-same st g)
   out-same CfbDecrypt st p g h = ap (p ⊕_) (enc-same st g)
-  out-same OfbEncrypt st p g h = ap (p ⊕_) (enc-same st g)
-  out-same OfbDecrypt st p g h = ap (p ⊕_) (enc-same st g)
+  out-same Ofb st p g h = ap (p ⊕_) (enc-same st g)
 
   next-same : (o : Operation) (st p : List ℕ) → ChainOf z o st → PieceOf z o p → machine c o .next st p ≡ machine d o .next st p
   next-same EcbEncrypt st p g h = refl
@@ -31,8 +30,7 @@ module _ (z : ℕ) (c d : BlockCipher) (enc-same : (x : List ℕ) → Octets z x
   next-same CbcDecrypt st p g h = refl
   next-same CfbEncrypt st p g h = ap (p ⊕_) (enc-same st g)
   next-same CfbDecrypt st p g h = refl
-  next-same OfbEncrypt st p g h = enc-same st g
-  next-same OfbDecrypt st p g h = enc-same st g
+  next-same Ofb st p g h = enc-same st g
 
   -- on n whole pieces, or on any length
   module _ (l : Lawful z d) (o : Operation) (n : ℕ) (st s : List ℕ) (some : 0 < z) (g : ChainOf z o st) (b : Bytes s) (e : Unless (anyLength o) (length s ≡ n * z)) where

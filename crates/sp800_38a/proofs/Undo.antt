@@ -1,4 +1,4 @@
--- What an operation makes is undone by the other way of its mode. Assumes nothing.
+-- What an operation makes is undone by the other way of its mode, in OFB by itself. Assumes nothing.
 use mathlib.Core.Path.{_≡_, refl, sym, _∙_}
 use mathlib.Core.List.{List, [], _++_, append-nil}
 use mathlib.Core.Logic.{⊎-elim}
@@ -13,7 +13,7 @@ use Rattle.octets.proofs.Blocks.{⊕-undo, ⊕-length, ⊕-bytes, ⊕-octets, l
 use Rattle.sp800_38a.specs.Pieces.{Machine, outputOf, pieceCount}
 use Rattle.sp800_38a.specs.Modes.{machine, other, anyLength, Unless, moded}
 use Rattle.sp800_38a.specs.declared.Operation.{Operation}
-use Rattle.sp800_38a.specs.declared.Operation.the-variants.{EcbEncrypt, EcbDecrypt, CbcEncrypt, CbcDecrypt, CfbEncrypt, CfbDecrypt, OfbEncrypt, OfbDecrypt}
+use Rattle.sp800_38a.specs.declared.Operation.the-variants.{EcbEncrypt, EcbDecrypt, CbcEncrypt, CbcDecrypt, CfbEncrypt, CfbDecrypt, Ofb}
 use Rattle.sp800_38a.proofs.Pieces.{Each, each-whole, Part, each-part, Keeps, made-length, count-whole, count-covers}
 
 -- m' undoes m, piece by piece
@@ -59,8 +59,7 @@ ChainOf z CbcEncrypt = Octets z
 ChainOf z CbcDecrypt = Octets z
 ChainOf z CfbEncrypt = Octets z
 ChainOf z CfbDecrypt = Octets z
-ChainOf z OfbEncrypt = Octets z
-ChainOf z OfbDecrypt = Octets z
+ChainOf z Ofb = Octets z
 
 -- the pieces of an operation: whole ones, and short ones too where any length goes
 abbrev pub PieceOf : ℕ → Operation → List ℕ → Type 0
@@ -70,8 +69,7 @@ PieceOf z CbcEncrypt = Octets z
 PieceOf z CbcDecrypt = Octets z
 PieceOf z CfbEncrypt = Octets z
 PieceOf z CfbDecrypt = Octets z
-PieceOf z OfbEncrypt = Part z
-PieceOf z OfbDecrypt = Part z
+PieceOf z Ofb = Part z
 
 -- so is an input cut: n whole pieces, or any number of bytes where any length goes
 pub cut : (z : ℕ) (o : Operation) (n : ℕ) (s : List ℕ) → 0 < z → Bytes s → Unless (anyLength o) (length s ≡ n * z) → Each z (PieceOf z o) (pieceCount z s) s
@@ -81,8 +79,7 @@ cut z CbcEncrypt n s some b e = rw (count-whole z n s some e) (each-whole z n s 
 cut z CbcDecrypt n s some b e = rw (count-whole z n s some e) (each-whole z n s e b)
 cut z CfbEncrypt n s some b e = rw (count-whole z n s some e) (each-whole z n s e b)
 cut z CfbDecrypt n s some b e = rw (count-whole z n s some e) (each-whole z n s e b)
-cut z OfbEncrypt n s some b e = each-part z (pieceCount z s) s (count-covers z s some) b
-cut z OfbDecrypt n s some b e = each-part z (pieceCount z s) s (count-covers z s some) b
+cut z Ofb n s some b e = each-part z (pieceCount z s) s (count-covers z s some) b
 
 module _ (z : ℕ) (c : BlockCipher) (l : Lawful z c) where
   -- a piece and the cipher of a chaining value
@@ -117,8 +114,7 @@ module _ (z : ℕ) (c : BlockCipher) (l : Lawful z c) where
   came CbcDecrypt st p g h = came-whole h (⊕-octets (l .dec-block p h) g)
   came CfbEncrypt st p g h = came-whole h (stream st p g h)
   came CfbDecrypt st p g h = came-whole h (stream st p g h)
-  came OfbEncrypt st p g h = came-part st p g h
-  came OfbDecrypt st p g h = came-part st p g h
+  came Ofb st p g h = came-part st p g h
 
   chain : (o : Operation) (st p : List ℕ) → ChainOf z o st → PieceOf z o p → ChainOf z o (machine c o .next st p)
   chain EcbEncrypt st p g h = g
@@ -127,8 +123,7 @@ module _ (z : ℕ) (c : BlockCipher) (l : Lawful z c) where
   chain CbcDecrypt st p g h = h
   chain CfbEncrypt st p g h = stream st p g h
   chain CfbDecrypt st p g h = h
-  chain OfbEncrypt st p g h = l .enc-block st g
-  chain OfbDecrypt st p g h = l .enc-block st g
+  chain Ofb st p g h = l .enc-block st g
 
   pub keeps : (o : Operation) → Keeps (machine c o) (ChainOf z o) (PieceOf z o)
   unfolding Came
@@ -141,8 +136,7 @@ module _ (z : ℕ) (c : BlockCipher) (l : Lawful z c) where
   back CbcDecrypt st p g h = rw (added (l .dec-block p h) g) (l .enc-dec p h)
   back CfbEncrypt st p g h = unstream st p g (omega (arith, h .size))
   back CfbDecrypt st p g h = unstream st p g (omega (arith, h .size))
-  back OfbEncrypt st p g h = unstream st p g (h .size)
-  back OfbDecrypt st p g h = unstream st p g (h .size)
+  back Ofb st p g h = unstream st p g (h .size)
 
   along : (o : Operation) (st p : List ℕ) → ChainOf z o st → PieceOf z o p → machine c (other o) .next st (machine c o .out st p) ≡ machine c o .next st p
   along EcbEncrypt st p g h = refl
@@ -151,13 +145,12 @@ module _ (z : ℕ) (c : BlockCipher) (l : Lawful z c) where
   along CbcDecrypt st p g h = rw (added (l .dec-block p h) g) (l .enc-dec p h)
   along CfbEncrypt st p g h = refl
   along CfbDecrypt st p g h = unstream st p g (omega (arith, h .size))
-  along OfbEncrypt st p g h = refl
-  along OfbDecrypt st p g h = refl
+  along Ofb st p g h = refl
 
   pub undoes : (o : Operation) → Undoes (machine c o) (machine c (other o)) (ChainOf z o) (PieceOf z o)
   undoes o = record { back = back o; along = along o }
 
-  -- on n whole pieces, or on any length: as long as the input, and undone by the other way
+  -- on n whole pieces, or on any length: as long as the input, and undone
   module _ (o : Operation) (n : ℕ) (iv s : List ℕ) (some : 0 < z) (g : ChainOf z o iv) (b : Bytes s) (e : Unless (anyLength o) (length s ≡ n * z)) where
     pub whole : Each z (PieceOf z o) (pieceCount z s) s
     whole = cut z o n s some b e

@@ -5,7 +5,7 @@ use mathlib.Core.List.{List}
 use Rattle.octets.specs.Blocks.{_⊕_, BlockCipher}
 use Rattle.sp800_38a.specs.Pieces.{piece}
 use Rattle.sp800_38a.specs.declared.Operation.{Operation}
-use Rattle.sp800_38a.specs.declared.Operation.the-variants.{EcbEncrypt, EcbDecrypt, CbcEncrypt, CbcDecrypt, CfbEncrypt, CfbDecrypt, OfbEncrypt, OfbDecrypt}
+use Rattle.sp800_38a.specs.declared.Operation.the-variants.{EcbEncrypt, EcbDecrypt, CbcEncrypt, CbcDecrypt, CfbEncrypt, CfbDecrypt, Ofb}
 
 -- the ciphertext before piece i: the IV before the first
 abbrev pub previous : ℕ → List ℕ → List ℕ → ℕ → List ℕ
@@ -26,5 +26,4 @@ Equation z e CbcEncrypt iv p c i = piece z c i ≡ e .enc (piece z p i ⊕ previ
 Equation z e CbcDecrypt iv c p i = piece z p i ≡ e .dec (piece z c i) ⊕ previous z iv c i
 Equation z e CfbEncrypt iv p c i = piece z c i ≡ piece z p i ⊕ e .enc (previous z iv c i)
 Equation z e CfbDecrypt iv c p i = piece z p i ≡ piece z c i ⊕ e .enc (previous z iv c i)
-Equation z e OfbEncrypt iv p c i = piece z c i ≡ piece z p i ⊕ outputBlock e iv (suc i)
-Equation z e OfbDecrypt iv c p i = piece z p i ≡ piece z c i ⊕ outputBlock e iv (suc i)
+Equation z e Ofb iv p c i = piece z c i ≡ piece z p i ⊕ outputBlock e iv (suc i)

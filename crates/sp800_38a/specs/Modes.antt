@@ -5,7 +5,7 @@ use mathlib.Core.Bool.{Bool, true, false}
 use Rattle.octets.specs.Blocks.{_⊕_, BlockCipher}
 use Rattle.sp800_38a.specs.Pieces.{Machine, outputOf, pieceCount}
 use Rattle.sp800_38a.specs.declared.Operation.{Operation}
-use Rattle.sp800_38a.specs.declared.Operation.the-variants.{EcbEncrypt, EcbDecrypt, CbcEncrypt, CbcDecrypt, CfbEncrypt, CfbDecrypt, OfbEncrypt, OfbDecrypt}
+use Rattle.sp800_38a.specs.declared.Operation.the-variants.{EcbEncrypt, EcbDecrypt, CbcEncrypt, CbcDecrypt, CfbEncrypt, CfbDecrypt, Ofb}
 
 -- of the chaining value st and the piece p: the block that comes out, and the next chaining value (6.1, 6.2, 6.3 with s = b, 6.4)
 abbrev pub machine : BlockCipher → Operation → Machine
@@ -15,10 +15,9 @@ machine c CbcEncrypt = record { out = λ st p. c .enc (p ⊕ st); next = λ st p
 machine c CbcDecrypt = record { out = λ st p. c .dec p ⊕ st; next = λ st p. p }
 machine c CfbEncrypt = record { out = λ st p. p ⊕ c .enc st; next = λ st p. p ⊕ c .enc st }
 machine c CfbDecrypt = record { out = λ st p. p ⊕ c .enc st; next = λ st p. p }
-machine c OfbEncrypt = record { out = λ st p. p ⊕ c .enc st; next = λ st p. c .enc st }
-machine c OfbDecrypt = record { out = λ st p. p ⊕ c .enc st; next = λ st p. c .enc st }
+machine c Ofb = record { out = λ st p. p ⊕ c .enc st; next = λ st p. c .enc st }
 
--- the operation that undoes another
+-- the operation that undoes another: OFB undoes itself
 abbrev pub other : Operation → Operation
 other EcbEncrypt = EcbDecrypt
 other EcbDecrypt = EcbEncrypt
@@ -26,8 +25,7 @@ other CbcEncrypt = CbcDecrypt
 other CbcDecrypt = CbcEncrypt
 other CfbEncrypt = CfbDecrypt
 other CfbDecrypt = CfbEncrypt
-other OfbEncrypt = OfbDecrypt
-other OfbDecrypt = OfbEncrypt
+other Ofb = Ofb
 
 -- whether an operation uses the inverse cipher
 abbrev pub inverts : Operation → Bool
@@ -37,8 +35,7 @@ inverts CbcEncrypt = false
 inverts CbcDecrypt = true
 inverts CfbEncrypt = false
 inverts CfbDecrypt = false
-inverts OfbEncrypt = false
-inverts OfbDecrypt = false
+inverts Ofb = false
 
 -- how long the IV is: none in ECB, a block in the others (5.3)
 abbrev pub ivLength : ℕ → Operation → ℕ
@@ -48,8 +45,7 @@ ivLength z CbcEncrypt = z
 ivLength z CbcDecrypt = z
 ivLength z CfbEncrypt = z
 ivLength z CfbDecrypt = z
-ivLength z OfbEncrypt = z
-ivLength z OfbDecrypt = z
+ivLength z Ofb = z
 
 -- whether the input may have any length, its last piece short (5.2): in OFB alone; the others take whole pieces
 abbrev pub anyLength : Operation → Bool
@@ -59,8 +55,7 @@ anyLength CbcEncrypt = false
 anyLength CbcDecrypt = false
 anyLength CfbEncrypt = false
 anyLength CfbDecrypt = false
-anyLength OfbEncrypt = true
-anyLength OfbDecrypt = true
+anyLength Ofb = true
 
 -- what is asked of an input unless any length goes
 abbrev pub Unless : Bool → Type 0 → Type 0

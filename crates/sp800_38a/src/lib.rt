@@ -1,6 +1,6 @@
-// No code but a type: the modes of SP 800-38A over any block cipher, their equations by index, and that each way undoes the other.
+// No code but a type: the modes of SP 800-38A over any block cipher, their equations by index, and that each operation is undone.
 
-// What a mode does: encryption or decryption in it.
+// What a mode does: encryption or decryption in it, which in OFB are one.
 pub enum Operation {
     EcbEncrypt,
     EcbDecrypt,
@@ -8,6 +8,5 @@ pub enum Operation {
     CbcDecrypt,
     CfbEncrypt,
     CfbDecrypt,
-    OfbEncrypt,
-    OfbDecrypt,
+    Ofb,
 }

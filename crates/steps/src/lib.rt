@@ -57,20 +57,12 @@ pub fn step(
             let out = xor(piece, encrypt_block(table, words, rounds, chain));
             Stepped { out, next: piece }
         }
-        Operation::OfbEncrypt => {
+        Operation::Ofb => {
             let output_block = encrypt_block(table, words, rounds, chain);
-            let ciphertext = xor(piece, output_block);
+            let out = xor(piece, output_block);
             Stepped {
-                out: ciphertext,
+                out,
                 next: output_block,
-            }
-        }
-        Operation::OfbDecrypt => {
-            let key_stream = encrypt_block(table, words, rounds, chain);
-            let plaintext = xor(piece, key_stream);
-            Stepped {
-                out: plaintext,
-                next: key_stream,
             }
         }
     }

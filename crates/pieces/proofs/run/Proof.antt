@@ -4,6 +4,7 @@ use denote.Ref.{now}
 use Rattle.lookups.specs.Lookups.{oneTable}
 use Rattle.sp800_38a.specs.Modes.{machine}
 use Rattle.pieces.specs.Runs.{reach, runOver}
+use Rattle.pieces.proofs.Agree.{any-length-ofb}
 use Rattle.pieces.proofs.Runs.{whole-pieces}
 use native.Mathlib.Omega.{arith}
 use borrow.Author.Needs.{needs}
@@ -26,7 +27,9 @@ returns : tie.Need-returns
 unfolding runOver reach
 returns c =
     let k = c .before .before .before .before .before in
-    rw (sym (k .any-length .ensures) ∙ c .before .before .before .before .if1 .taken, ← k .before .shorter .ensures) (c .before .before .to-the-end .ensures)
+    let a = k .before .before .before .before .args in
+    let ofb = any-length-ofb (a .operation) (sym (k .any-length .ensures) ∙ c .before .before .before .before .if1 .taken) in
+    rw (ofb, ← k .before .shorter .ensures) (c .before .before .to-the-end .ensures)
 
 goes-in-pairs-requires : tie.Need-goes-in-pairs-requires
 goes-in-pairs-requires c κs = search needs

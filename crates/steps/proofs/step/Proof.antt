@@ -59,15 +59,6 @@ encrypt-block-requires-5 c κs = search needs
 xor-requires-5 : tie.Need-xor-requires-5
 xor-requires-5 c κs = search needs
 
-enum-told-8 : tie.Need-enum-told-8
-enum-told-8 c = search needs
-
-encrypt-block-requires-6 : tie.Need-encrypt-block-requires-6
-encrypt-block-requires-6 c κs = search needs
-
-xor-requires-6 : tie.Need-xor-requires-6
-xor-requires-6 c κs = search needs
-
 returns : tie.Need-returns
 returns c = rw (c .before .enum-told .given .1) (cc)
 
@@ -88,9 +79,6 @@ returns-6 c = rw (c .before .before .enum-told6 .given .1) (cc)
 
 returns-7 : tie.Need-returns-7
 returns-7 c = rw (c .before .before .enum-told7 .given .1) (cc)
-
-returns-8 : tie.Need-returns-8
-returns-8 c = rw (c .before .before .enum-told8 .given .1) (cc)
 
 pub step-spec : {M : Type 1} → statement M
 step-spec =
@@ -115,14 +103,10 @@ step-spec =
     enum-told-7
     encrypt-block-requires-5
     xor-requires-5
-    enum-told-8
-    encrypt-block-requires-6
-    xor-requires-6
     returns
     returns-2
     returns-3
     returns-4
     returns-5
     returns-6
-    returns-7
-    returns-8)
+    returns-7)

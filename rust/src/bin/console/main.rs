@@ -4,7 +4,7 @@
 mod lent;
 mod words;
 
-use dock::{Check, Mode, Reader, Refusal, Turn, Way};
+use dock::{Check, Reader, Refusal, Turn};
 use lent::{canary, stop, Lent, CANARY};
 use std::env;
 use std::io::{self, BufRead, BufWriter, Read, Write};
@@ -148,20 +148,21 @@ fn check(key: &[u8], message: &[u8]) -> Option<String> {
     Some(block_words(dock::check(&key, &message)))
 }
 
+type Moded = fn(&[u8], &[u8], &[u8], &mut [u8]) -> Result<(), Refusal>;
+
 fn mode(name: &[u8], key: &[u8], iv: &[u8], data: &[u8], room: &[u8]) -> Option<String> {
-    let (mode, way) = match name {
-        b"ecb-encrypt" => (Mode::Ecb, Way::Encrypt),
-        b"ecb-decrypt" => (Mode::Ecb, Way::Decrypt),
-        b"cbc-encrypt" => (Mode::Cbc, Way::Encrypt),
-        b"cbc-decrypt" => (Mode::Cbc, Way::Decrypt),
-        b"cfb-encrypt" => (Mode::Cfb, Way::Encrypt),
-        b"cfb-decrypt" => (Mode::Cfb, Way::Decrypt),
-        b"ofb-encrypt" => (Mode::Ofb, Way::Encrypt),
-        b"ofb-decrypt" => (Mode::Ofb, Way::Decrypt),
+    let call: Moded = match name {
+        b"ecb-encrypt" => dock::ecb_encrypt,
+        b"ecb-decrypt" => dock::ecb_decrypt,
+        b"cbc-encrypt" => dock::cbc_encrypt,
+        b"cbc-decrypt" => dock::cbc_decrypt,
+        b"cfb-encrypt" => dock::cfb_encrypt,
+        b"cfb-decrypt" => dock::cfb_decrypt,
+        b"ofb" => dock::ofb,
         _ => return None,
     };
     let (key, iv, data, mut room) = (input(key)?, input(iv)?, input(data)?, output(room)?);
-    let result = dock::apply(mode, way, &key, &iv, &data, room.lend());
+    let result = call(&key, &iv, &data, room.lend());
     Some(format!("{} {}", number_of(&result), hex(&room)))
 }
 

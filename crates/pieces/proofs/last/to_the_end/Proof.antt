@@ -3,8 +3,7 @@ use mathlib.Core.Path.{_≡_, _∙_}
 use denote.Ref.{now}
 use Rattle.lookups.specs.Lookups.{oneTable}
 use Rattle.sp800_38a.specs.Modes.{machine}
-use Rattle.sp800_38a.specs.declared.Operation.the-variants.{OfbEncrypt}
-use Rattle.pieces.proofs.Agree.{any-length-ofb}
+use Rattle.sp800_38a.specs.declared.Operation.the-variants.{Ofb}
 use Rattle.pieces.proofs.Runs.{run-rest}
 use native.Mathlib.Omega.{arith}
 use borrow.Author.Needs.{needs}
@@ -45,11 +44,9 @@ returns : tie.Need-returns
 returns c =
     let k = c .before .before .before .before .before .before .before in
     let a = k .before .before .before .before .args in
-    let o = oneTable (now (a .table)) (now (a .words)) (a .rounds) in
-    let m = machine o (a .operation) in
-    let ofb : m ≡ machine o OfbEncrypt = any-length-ofb o (a .operation) (k .before .before .before .before .pre .0) in
+    let m = machine (oneTable (now (a .table)) (now (a .words)) (a .rounds)) Ofb in
     run-rest m (a .iv) (now (a .input)) (now (a .output)) (a .end / 16) (a .end) (omega arith) (search needs) (search needs) _ _
-    (k .in-order .ensures) (search needs) _ _ (c .before .before .last-piece .ensures ∙ rw ofb)
+    (k .in-order .ensures) (search needs) _ _ (c .before .before .last-piece .ensures)
 
 pub to-the-end-spec : {M : Type 1} → statement M
 to-the-end-spec =
