@@ -80,17 +80,21 @@ static void one_block(int way, size_t key_length)
     memcpy(output, answer.block, 16);
 }
 
-typedef uint32_t mode_call(const uint8_t *, size_t, const uint8_t *, size_t, const uint8_t *, size_t, uint8_t *, size_t);
+typedef SHIM_CHAIN(call);
 
 static void whole(int mode, int way, size_t key_length)
 {
-    static mode_call *const calls[MODES][WAYS] = {
-        {dock_ecb_encrypt, dock_ecb_decrypt},
-        {dock_cbc_encrypt, dock_cbc_decrypt},
-        {dock_cfb_encrypt, dock_cfb_decrypt},
-        {dock_ofb, NULL},
+    static shim_call *const calls[MODES][WAYS] = {
+        [CBC] = {shim_cbc_encrypt, shim_cbc_decrypt},
+        [CFB] = {shim_cfb_encrypt, shim_cfb_decrypt},
+        [OFB] = {shim_ofb},
     };
-    must(calls[mode][way](key, key_length, iv, mode == ECB ? 0 : 16, input, LONG, output, LONG) == 0, "ours: a mode");
+    dock_chain_answer answer;
+    if (mode == ECB)
+        answer.number = (way == ENCRYPT ? dock_ecb_encrypt : dock_ecb_decrypt)(key, key_length, iv, 0, input, LONG, output, LONG);
+    else
+        calls[mode][way](key, key_length, iv, 16, input, LONG, output, LONG, &answer);
+    must(answer.number == 0, "ours: a mode");
 }
 
 static void check(size_t key_length)

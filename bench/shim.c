@@ -1,6 +1,17 @@
 // The exported calls that take or give a struct by value, with pointers in place of the structs.
 #include "shim.h"
 
+#define CHAIN(name)                                                                                                             \
+    SHIM_CHAIN(name)                                                                                                            \
+    {                                                                                                                           \
+        *answer = dock_##name(key, key_length, iv, iv_length, input, input_length, output, output_length);                      \
+    }
+CHAIN(cbc_encrypt)
+CHAIN(cbc_decrypt)
+CHAIN(cfb_encrypt)
+CHAIN(cfb_decrypt)
+CHAIN(ofb)
+
 void shim_encrypt(const uint8_t *key, size_t key_length, const dock_block *block, dock_block_answer *answer)
 {
     *answer = dock_encrypt(key, key_length, *block);

@@ -67,21 +67,21 @@ static void on_decrypt(void)
 static const size_t wholes[] = {0, 16, 32, 4096, LONG};
 enum { WHOLES = sizeof wholes / sizeof wholes[0] };
 
-#define ON_MODE(name, iv_length)                                                                              \
+#define ON_MODE(name, iv_length, answer, number)                                                              \
     static void on_##name(void)                                                                               \
     {                                                                                                         \
         for (int i = 0; i < WHOLES; i++) {                                                                    \
-            uint32_t a = ON(dock_##name)(key, key_length, input, iv_length, input, wholes[i], output, LONG);  \
-            seen(a == 0);                                                                                     \
+            answer a = ON(dock_##name)(key, key_length, input, iv_length, input, wholes[i], output, LONG);    \
+            seen(number == 0);                                                                                \
         }                                                                                                     \
     }
-ON_MODE(ecb_encrypt, 0)
-ON_MODE(ecb_decrypt, 0)
-ON_MODE(cbc_encrypt, 16)
-ON_MODE(cbc_decrypt, 16)
-ON_MODE(cfb_encrypt, 16)
-ON_MODE(cfb_decrypt, 16)
-ON_MODE(ofb, 16)
+ON_MODE(ecb_encrypt, 0, uint32_t, a)
+ON_MODE(ecb_decrypt, 0, uint32_t, a)
+ON_MODE(cbc_encrypt, 16, dock_chain_answer, a.number)
+ON_MODE(cbc_decrypt, 16, dock_chain_answer, a.number)
+ON_MODE(cfb_encrypt, 16, dock_chain_answer, a.number)
+ON_MODE(cfb_decrypt, 16, dock_chain_answer, a.number)
+ON_MODE(ofb, 16, dock_chain_answer, a.number)
 
 static const size_t lengths[] = {0, 1, 16, 17, 496, 4096, LONG};
 enum { LENGTHS = sizeof lengths / sizeof lengths[0] };
@@ -193,11 +193,11 @@ static const struct {
     {"dock_decrypt", on_decrypt, 0, sizeof(dock_block_answer)},
     {"dock_ecb_encrypt", on_ecb_encrypt, 16, 0},
     {"dock_ecb_decrypt", on_ecb_decrypt, 16, 0},
-    {"dock_cbc_encrypt", on_cbc_encrypt, 16, 0},
-    {"dock_cbc_decrypt", on_cbc_decrypt, 16, 0},
-    {"dock_cfb_encrypt", on_cfb_encrypt, 16, 0},
-    {"dock_cfb_decrypt", on_cfb_decrypt, 16, 0},
-    {"dock_ofb", on_ofb, 16, 0},
+    {"dock_cbc_encrypt", on_cbc_encrypt, 24, sizeof(dock_chain_answer)},
+    {"dock_cbc_decrypt", on_cbc_decrypt, 24, sizeof(dock_chain_answer)},
+    {"dock_cfb_encrypt", on_cfb_encrypt, 24, sizeof(dock_chain_answer)},
+    {"dock_cfb_decrypt", on_cfb_decrypt, 24, sizeof(dock_chain_answer)},
+    {"dock_ofb", on_ofb, 24, sizeof(dock_chain_answer)},
     {"dock_check", on_check, 0, sizeof(dock_check_answer)},
     {"dock_check_start", on_check_start, 0, sizeof(dock_start_answer)},
     {"dock_check_feed", on_check_feed, 0, 0},

@@ -100,22 +100,32 @@ dock_block_answer dock_decrypt(const uint8_t *key, size_t key_length, dock_block
 
 // Each encrypts or decrypts the input into the front of the output, which has at least the input's length. ECB, CBC and CFB take a
 // multiple of 16 bytes, or none at all; OFB takes any length. The IV is empty in ECB and 16 bytes in the other modes; CFB is that
-// with segments of 16 bytes. OFB is one call: with the same key and IV it undoes itself. The answer is 0 or the first that applies
+// with segments of 16 bytes. OFB is one call: with the same key and IV it undoes itself. The number is 0 or the first that applies
 // of 1, 2, 3, 4; OFB never gives 3. There is no padding.
+//
+// CBC, CFB and OFB hand on the next chaining value beside it: the last block of the ciphertext, in OFB the last cipher output made, all
+// 16 bytes, and the IV where the input is empty. As the IV of the next call it lets a long input go through a small buffer: parts of
+// whole 16 bytes, each with the value that the one before handed on, and a last part of any length that the mode takes, give what one
+// call over all of it gives (examples/c/long_file.c). A refused call has zeros in next. ECB chains nothing, and answers the number.
+typedef struct {
+    uint32_t number;
+    uint8_t next[16];
+} dock_chain_answer;
+
 uint32_t dock_ecb_encrypt(const uint8_t *key, size_t key_length, const uint8_t *iv, size_t iv_length,
                           const uint8_t *input, size_t input_length, uint8_t *output, size_t output_length);
 uint32_t dock_ecb_decrypt(const uint8_t *key, size_t key_length, const uint8_t *iv, size_t iv_length,
                           const uint8_t *input, size_t input_length, uint8_t *output, size_t output_length);
-uint32_t dock_cbc_encrypt(const uint8_t *key, size_t key_length, const uint8_t *iv, size_t iv_length,
-                          const uint8_t *input, size_t input_length, uint8_t *output, size_t output_length);
-uint32_t dock_cbc_decrypt(const uint8_t *key, size_t key_length, const uint8_t *iv, size_t iv_length,
-                          const uint8_t *input, size_t input_length, uint8_t *output, size_t output_length);
-uint32_t dock_cfb_encrypt(const uint8_t *key, size_t key_length, const uint8_t *iv, size_t iv_length,
-                          const uint8_t *input, size_t input_length, uint8_t *output, size_t output_length);
-uint32_t dock_cfb_decrypt(const uint8_t *key, size_t key_length, const uint8_t *iv, size_t iv_length,
-                          const uint8_t *input, size_t input_length, uint8_t *output, size_t output_length);
-uint32_t dock_ofb(const uint8_t *key, size_t key_length, const uint8_t *iv, size_t iv_length,
-                  const uint8_t *input, size_t input_length, uint8_t *output, size_t output_length);
+dock_chain_answer dock_cbc_encrypt(const uint8_t *key, size_t key_length, const uint8_t *iv, size_t iv_length,
+                                   const uint8_t *input, size_t input_length, uint8_t *output, size_t output_length);
+dock_chain_answer dock_cbc_decrypt(const uint8_t *key, size_t key_length, const uint8_t *iv, size_t iv_length,
+                                   const uint8_t *input, size_t input_length, uint8_t *output, size_t output_length);
+dock_chain_answer dock_cfb_encrypt(const uint8_t *key, size_t key_length, const uint8_t *iv, size_t iv_length,
+                                   const uint8_t *input, size_t input_length, uint8_t *output, size_t output_length);
+dock_chain_answer dock_cfb_decrypt(const uint8_t *key, size_t key_length, const uint8_t *iv, size_t iv_length,
+                                   const uint8_t *input, size_t input_length, uint8_t *output, size_t output_length);
+dock_chain_answer dock_ofb(const uint8_t *key, size_t key_length, const uint8_t *iv, size_t iv_length,
+                           const uint8_t *input, size_t input_length, uint8_t *output, size_t output_length);
 
 // ---- The check: CMAC of SP 800-38B, all 16 bytes
 

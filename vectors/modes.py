@@ -22,14 +22,29 @@ def line(mode, way, key, iv, data, out):
     return "%s %s %s %s %s" % (word(mode, way), h(key), h(iv), h(data), h(out))
 
 
-def done(book, mode, way, key, iv, data, result, out):
+def answer(mode, number, following, out):
+    """The answer to a line: ECB has no chaining value to hand on."""
+    return "%d %s" % (number, h(out)) if mode == "ecb" else "%d %s %s" % (number, h(following), h(out))
+
+
+def handed_on(mode, way, iv, data, result):
+    """The chaining value after whole pieces. The last output block of OFB is the sum of what went in and what came out."""
+    if not data:
+        return iv
+    if mode == "ofb":
+        return bytes(a ^ b for a, b in zip(data[-16:], result[-16:]))
+    return (result if way == "encrypt" else data)[-16:]
+
+
+def done(book, mode, way, key, iv, data, result, out, following=None):
     """A line that is carried out: the result lies over the front of the output."""
-    book.add(line(mode, way, key, iv, data, out), "0 " + h(laid_over(result, out)))
+    following = handed_on(mode, way, iv, data, result) if following is None else following
+    book.add(line(mode, way, key, iv, data, out), answer(mode, 0, following, laid_over(result, out)))
 
 
 def refused(book, number, mode, way, key, iv, data, out):
-    """A line that is refused: the output stays as it was."""
-    book.add(line(mode, way, key, iv, data, out), "%d %s" % (number, h(out)))
+    """A line that is refused: the output stays as it was, and zeros are handed on."""
+    book.add(line(mode, way, key, iv, data, out), answer(mode, number, bytes(16), out))
 
 
 def right_iv(mode):
@@ -225,7 +240,9 @@ def main(root, folder):
                 "copied from the named source or follow from the rules of document 01 and docs/CONSOLE.md.")
     book.remark("SP 800-38A prints each example both ways with the same values. Crypto++ quotes the encryptions; the "
                 "decryptions are the same values changed over.")
-    book.remark("OFB takes inputs of any length: the lines for those are in ofb.py.")
+    book.remark("The chaining value that CBC and CFB hand on is the last block of the ciphertext, that of OFB the sum of the last "
+                "blocks of plain text and ciphertext: SP 800-38A, 6.2 to 6.4.")
+    book.remark("OFB takes inputs of any length: the lines for those are in ofb.py. Inputs in two calls are in handed.py.")
     standard(book, root)
     known_answers(book, root)
     multi_block(book, root)

@@ -28,6 +28,11 @@ def ofb(k, data):
     return subprocess.run(words, input=data, capture_output=True, check=True).stdout
 
 
+def last_output(k, size):
+    """The last output block that so many bytes need, all 16 bytes: what OpenSSL makes of zeros up to its end."""
+    return ofb(k, bytes((size + 15) // 16 * 16))[-16:] if size else IV
+
+
 def lengths(book, sizes, what):
     """Each length there and back, under three key sizes, into an output as long, a longer one and one a byte short."""
     book.group(what + ", three key sizes, there and back, output as long, 21 bytes longer and, refused by 4, a byte short",
@@ -35,10 +40,10 @@ def lengths(book, sizes, what):
     for size in sizes:
         for k in map(key, KEY_SIZES):
             plain = text(size)
-            cipher = ofb(k, plain)
+            cipher, following = ofb(k, plain), last_output(k, size)
             for data, result in ((plain, cipher), (cipher, plain)):
-                done(book, "ofb", "", k, IV, data, result, filler(size))
-                done(book, "ofb", "", k, IV, data, result, filler(size + 21))
+                done(book, "ofb", "", k, IV, data, result, filler(size), following)
+                done(book, "ofb", "", k, IV, data, result, filler(size + 21), following)
                 if size:
                     refused(book, 4, "ofb", "", k, IV, data, filler(size - 1))
 

@@ -28,6 +28,13 @@ pub struct BlockAnswer {
 
 #[repr(C)]
 #[derive(Clone, Copy)]
+pub struct ChainAnswer {
+    pub number: u32,
+    pub next: [u8; 16],
+}
+
+#[repr(C)]
+#[derive(Clone, Copy)]
 pub struct CheckAnswer {
     pub number: u32,
     pub check: [u8; 16],
@@ -105,7 +112,7 @@ impl Reader {
     };
 }
 
-/// One of the seven calls of the modes: key, IV, input and output, each with its length.
+/// One of the two calls of ECB: key, IV, input and output, each with its length.
 pub type ModeCall = unsafe extern "C" fn(
     *const u8,
     usize,
@@ -116,6 +123,18 @@ pub type ModeCall = unsafe extern "C" fn(
     *mut u8,
     usize,
 ) -> u32;
+
+/// One of the five calls of the modes that hand on a chaining value.
+pub type ChainCall = unsafe extern "C" fn(
+    *const u8,
+    usize,
+    *const u8,
+    usize,
+    *const u8,
+    usize,
+    *mut u8,
+    usize,
+) -> ChainAnswer;
 
 /// One of the two calls of the key wrap: key, data and output, each with its length.
 pub type WrapCall = unsafe extern "C" fn(*const u8, usize, *const u8, usize, *mut u8, usize) -> u32;
@@ -138,23 +157,23 @@ extern "C" {
     pub fn dock_cbc_encrypt(
         key: *const u8, key_length: usize, iv: *const u8, iv_length: usize,
         input: *const u8, input_length: usize, output: *mut u8, output_length: usize,
-    ) -> u32;
+    ) -> ChainAnswer;
     pub fn dock_cbc_decrypt(
         key: *const u8, key_length: usize, iv: *const u8, iv_length: usize,
         input: *const u8, input_length: usize, output: *mut u8, output_length: usize,
-    ) -> u32;
+    ) -> ChainAnswer;
     pub fn dock_cfb_encrypt(
         key: *const u8, key_length: usize, iv: *const u8, iv_length: usize,
         input: *const u8, input_length: usize, output: *mut u8, output_length: usize,
-    ) -> u32;
+    ) -> ChainAnswer;
     pub fn dock_cfb_decrypt(
         key: *const u8, key_length: usize, iv: *const u8, iv_length: usize,
         input: *const u8, input_length: usize, output: *mut u8, output_length: usize,
-    ) -> u32;
+    ) -> ChainAnswer;
     pub fn dock_ofb(
         key: *const u8, key_length: usize, iv: *const u8, iv_length: usize,
         input: *const u8, input_length: usize, output: *mut u8, output_length: usize,
-    ) -> u32;
+    ) -> ChainAnswer;
 
     pub fn dock_check(key: *const u8, key_length: usize, message: *const u8, length: usize) -> CheckAnswer;
     pub fn dock_check_start(key: *const u8, key_length: usize) -> StartAnswer;

@@ -184,7 +184,11 @@ fn mode_call(name: &[u8], key: &[u8], iv: &[u8], input: &[u8], output: &[u8]) ->
     let (key, iv, input) = (hex::read(key)?, hex::read(iv)?, hex::read(input)?);
     let mut output = hex::read(output)?;
     let result = modes::run(operation, &key, &iv, &input, &mut output);
-    Some(format!("{} {}", number_of(&result), hex::shown(&output)))
+    let number = match operation {
+        Operation::EcbEncrypt | Operation::EcbDecrypt => number_of(&result).to_string(),
+        _ => block_answer(result),
+    };
+    Some(format!("{number} {}", hex::shown(&output)))
 }
 
 fn operation_named(name: &[u8]) -> Option<Operation> {

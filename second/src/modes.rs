@@ -15,19 +15,37 @@ pub enum Operation {
     Ofb,
 }
 
+/// The answer is the chaining value for bytes that come after these; ECB has none and answers zeros.
 pub fn run(
     operation: Operation,
     key: &[u8],
     iv: &[u8],
     input: &[u8],
     output: &mut [u8],
-) -> Result<(), Refusal> {
+) -> Result<Block, Refusal> {
     let key = KeySchedule::new(key)?;
     let iv = starting_vector(operation, iv)?;
     let result = transform(operation, &key, iv, input)?;
     let room = output.get_mut(..input.len()).ok_or(Refusal::OutputShort)?;
     room.copy_from_slice(&result);
-    Ok(())
+    Ok(chaining_value(operation, &key, iv, input, &result))
+}
+
+/// The last ciphertext block, of OFB the last output block (6.2 to 6.4); the IV where there is no block.
+fn chaining_value(
+    operation: Operation,
+    key: &KeySchedule,
+    iv: Block,
+    input: &[u8],
+    result: &[u8],
+) -> Block {
+    let last_of = |sealed: &[u8]| sealed.last_chunk().copied().unwrap_or(iv);
+    match operation {
+        Operation::EcbEncrypt | Operation::EcbDecrypt => [0; 16],
+        Operation::CbcEncrypt | Operation::CfbEncrypt => last_of(result),
+        Operation::CbcDecrypt | Operation::CfbDecrypt => last_of(input),
+        Operation::Ofb => (0..input.len().div_ceil(16)).fold(iv, |stream, _| key.encrypt(&stream)),
+    }
 }
 
 fn starting_vector(operation: Operation, iv: &[u8]) -> Result<Block, Refusal> {
@@ -224,14 +242,68 @@ mod tests {
         let mut output = [0xaa; 20];
         assert_eq!(
             run(Operation::Ofb, &[0; 16], &[0; 16], &[], &mut output),
-            Ok(())
+            Ok([0; 16])
         );
         assert_eq!(output, [0xaa; 20]);
         assert_eq!(
             run(Operation::EcbEncrypt, &[0; 16], &[], &[0; 16], &mut output),
-            Ok(())
+            Ok([0; 16])
         );
         assert_eq!(output[16..], [0xaa; 4]);
         assert_ne!(output[..16], [0xaa; 16]);
+    }
+
+    /// SP 800-38A's examples again, in two calls with the value handed on.
+    #[test]
+    fn the_value_handed_on_goes_on() {
+        let sealed = [
+            (
+                CBC,
+                "7649abac8119b246cee98e9b12e9197d5086cb9b507219ee95db113a917678b2",
+            ),
+            (
+                CFB,
+                "3b3fd92eb72dad20333449f8e83cfb4ac8a64537a0b3a93fcde3cdad9f1ce58b",
+            ),
+            (
+                OFB,
+                "3b3fd92eb72dad20333449f8e83cfb4a7789508d16918f03f53c52dac54ed825",
+            ),
+        ];
+        for (ways, sealed) in sealed {
+            for (way, input, expected) in [(ways[0], PLAIN, sealed), (ways[1], sealed, PLAIN)] {
+                let (key, input, mut output) = (bytes(KEYS[0]), bytes(input), [0; 32]);
+                let (front, rest) = output.split_at_mut(16);
+                let next = run(way, &key, &bytes(IV), &input[..16], front).unwrap();
+                run(way, &key, &next, &input[16..], rest).unwrap();
+                assert_eq!(shown(&output), expected);
+            }
+        }
+    }
+
+    /// F.4.1's output blocks: the one that a short piece used a part of is handed on whole.
+    #[test]
+    fn ofb_hands_on_a_whole_output_block() {
+        let blocks = [
+            "50fe67cc996d32b6da0937e99bafec60",
+            "d9a4dada0892239f6b8b3d7680e15674",
+        ];
+        for (length, block) in [
+            (1, blocks[0]),
+            (16, blocks[0]),
+            (17, blocks[1]),
+            (32, blocks[1]),
+        ] {
+            let input = bytes(&PLAIN[..2 * length]);
+            let mut output = vec![0; length];
+            let next = run(
+                Operation::Ofb,
+                &bytes(KEYS[0]),
+                &bytes(IV),
+                &input,
+                &mut output,
+            );
+            assert_eq!(next.map(|next| shown(&next)), Ok(block.to_string()));
+        }
     }
 }

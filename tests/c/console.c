@@ -24,6 +24,7 @@ static dock_record record;
 static dock_reader reader;
 
 typedef uint32_t mode_call(const uint8_t *, size_t, const uint8_t *, size_t, const uint8_t *, size_t, uint8_t *, size_t);
+typedef dock_chain_answer chain_call(const uint8_t *, size_t, const uint8_t *, size_t, const uint8_t *, size_t, uint8_t *, size_t);
 typedef uint32_t wrap_call(const uint8_t *, size_t, const uint8_t *, size_t, uint8_t *, size_t);
 typedef dock_block_answer block_call(const uint8_t *, size_t, dock_block);
 
@@ -35,6 +36,7 @@ struct form {
     bool (*answer)(const form *, const word *);
     union {
         mode_call *mode;
+        chain_call *chain;
         wrap_call *wrap;
         block_call *block;
     } call;  // where one function answers for several calls
@@ -115,6 +117,17 @@ static bool mode(const form *f, const word *w) {
     const lent *key = input(w[0]), *iv = input(w[1]), *in = input(w[2]), *out = output(w[3]);
     if (!key || !iv || !in || !out) return false;
     put_number(f->call.mode(key->bytes, key->length, iv->bytes, iv->length, in->bytes, in->length, out->bytes, out->length));
+    put_bytes(out->bytes, out->length);
+    return true;
+}
+
+static bool chained(const form *f, const word *w) {
+    const lent *key = input(w[0]), *iv = input(w[1]), *in = input(w[2]), *out = output(w[3]);
+    if (!key || !iv || !in || !out) return false;
+    dock_chain_answer answer =
+        f->call.chain(key->bytes, key->length, iv->bytes, iv->length, in->bytes, in->length, out->bytes, out->length);
+    put_number(answer.number);
+    put_bytes(answer.next, 16);
     put_bytes(out->bytes, out->length);
     return true;
 }
@@ -251,11 +264,11 @@ static const form forms[] = {
     {"decrypt", 2, one_block, {.block = dock_decrypt}},
     {"ecb-encrypt", 4, mode, {.mode = dock_ecb_encrypt}},
     {"ecb-decrypt", 4, mode, {.mode = dock_ecb_decrypt}},
-    {"cbc-encrypt", 4, mode, {.mode = dock_cbc_encrypt}},
-    {"cbc-decrypt", 4, mode, {.mode = dock_cbc_decrypt}},
-    {"cfb-encrypt", 4, mode, {.mode = dock_cfb_encrypt}},
-    {"cfb-decrypt", 4, mode, {.mode = dock_cfb_decrypt}},
-    {"ofb", 4, mode, {.mode = dock_ofb}},
+    {"cbc-encrypt", 4, chained, {.chain = dock_cbc_encrypt}},
+    {"cbc-decrypt", 4, chained, {.chain = dock_cbc_decrypt}},
+    {"cfb-encrypt", 4, chained, {.chain = dock_cfb_encrypt}},
+    {"cfb-decrypt", 4, chained, {.chain = dock_cfb_decrypt}},
+    {"ofb", 4, chained, {.chain = dock_ofb}},
     {"check", 2, check, {NULL}},
     {"check-start", 1, check_start, {NULL}},
     {"check-feed", 1, check_feed, {NULL}},

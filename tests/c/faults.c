@@ -14,7 +14,7 @@ static void flip(const uint8_t *byte) {
     *(uint8_t *)byte ^= 1;
 }
 
-uint32_t __real_dock_ofb(const uint8_t *, size_t, const uint8_t *, size_t, const uint8_t *, size_t, uint8_t *, size_t);
+dock_chain_answer __real_dock_ofb(const uint8_t *, size_t, const uint8_t *, size_t, const uint8_t *, size_t, uint8_t *, size_t);
 uint32_t __real_dock_wrap(const uint8_t *, size_t, const uint8_t *, size_t, uint8_t *, size_t);
 uint32_t __real_dock_unwrap(const uint8_t *, size_t, const uint8_t *, size_t, uint8_t *, size_t);
 dock_check_answer __real_dock_check(const uint8_t *, size_t, const uint8_t *, size_t);
@@ -24,10 +24,13 @@ void __real_dock_check_feed(dock_record *, const uint8_t *, size_t);
 dock_turn_answer __real_dock_read_turn(dock_reader, const uint8_t *, size_t, size_t, uint8_t *, size_t);
 
 // 1: the byte behind the output.
-uint32_t __wrap_dock_ofb(const uint8_t *key, size_t key_length, const uint8_t *iv, size_t iv_length,
-                         const uint8_t *input, size_t input_length, uint8_t *output, size_t output_length) {
+// 9: the chaining value handed on after a short last piece.
+dock_chain_answer __wrap_dock_ofb(const uint8_t *key, size_t key_length, const uint8_t *iv, size_t iv_length,
+                                  const uint8_t *input, size_t input_length, uint8_t *output, size_t output_length) {
     if (made(1)) flip(output + output_length);
-    return __real_dock_ofb(key, key_length, iv, iv_length, input, input_length, output, output_length);
+    dock_chain_answer answer = __real_dock_ofb(key, key_length, iv, iv_length, input, input_length, output, output_length);
+    if (made(9) && answer.number == DOCK_DONE && input_length % 16 != 0) flip(&answer.next[15]);
+    return answer;
 }
 
 // 2: the byte before the output.

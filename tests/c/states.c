@@ -80,7 +80,7 @@ static void seal(const header *h, uint8_t *block) {
     put(block + 14, h->reserved, 2);
     memcpy(first.bytes, block, 16);
     dock_block_answer iv = dock_encrypt(ekey, sizeof ekey, first);
-    expect(dock_cbc_encrypt(ekey, sizeof ekey, iv.block, 16, payload, 480, block + 16, 480) == 0, "sealing by hand");
+    expect(dock_cbc_encrypt(ekey, sizeof ekey, iv.block, 16, payload, 480, block + 16, 480).number == 0, "sealing by hand");
     memcpy(block + 496, dock_check(ckey, sizeof ckey, block, 496).check, 16);
 }
 

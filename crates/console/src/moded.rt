@@ -1,4 +1,5 @@
-// The lines of the modes, `MODE-WAY KEY IV IN OUT` and `ofb KEY IV IN OUT`.
+// The lines of the modes, `MODE-WAY KEY IV IN OUT` and `ofb KEY IV IN OUT`: ECB answers `N OUT`, the others hand on a chaining value
+// and answer `N NEXT OUT`.
 use crate::args;
 use crate::print;
 use args::Args;
@@ -6,6 +7,7 @@ use sp800_38a::Operation;
 
 pub fn answer(
     operation: Operation,
+    chains: bool,
     ins: &[u8],
     a: Args,
     outs: &mut [u8],
@@ -20,5 +22,17 @@ pub fn answer(
         args::bytes(ins, a, 3),
         &mut outs[..n],
     );
-    print::number_bytes(r.number() as u64, lines::part(outs, 0, n), text, at)
+    let told = r.answer;
+    let next = r.next;
+    let p = number_next(told.number() as u64, chains, next, text, at);
+    let q = places::put(b" ", text, p);
+    places::put_hex(lines::part(outs, 0, n), text, q)
+}
+
+// `N`, or `N NEXT`
+fn number_next(n: u64, chains: bool, next: [u8; 16], text: &mut [u8], at: usize) -> usize {
+    if chains {
+        return print::number_bytes(n, &next, text, at);
+    }
+    print::number(n, text, at)
 }

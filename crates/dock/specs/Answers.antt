@@ -8,7 +8,8 @@ use Rattle.octets.specs.Octets.{choose}
 use Rattle.schedule.specs.Schedule.{keyNumber}
 use Rattle.schedule.specs.declared.Expanded.{Expanded}
 use Rattle.cipher.specs.declared.Ciphered.{Ciphered}
-use Rattle.modes.specs.Calls.{modeAnswer, modeOutput}
+use Rattle.modes.specs.Calls.{modeNumber, modeAnswer, modeOutput, answerWith}
+use Rattle.modes.specs.declared.Applied.{Applied}
 use Rattle.sp800_38a.specs.declared.Operation.{Operation}
 use Rattle.cmac.specs.declared.Checked.{Checked}
 use Rattle.cmac.specs.declared.Started.{Started}
@@ -21,6 +22,7 @@ use Rattle.image.specs.declared.Stop.the-variants.{End, Asked, Lent, Room, At}
 use Rattle.image.specs.declared.Turn.{Turn}
 use Rattle.dock.specs.declared.ScheduleAnswer.{ScheduleAnswer}
 use Rattle.dock.specs.declared.BlockAnswer.{BlockAnswer}
+use Rattle.dock.specs.declared.ChainAnswer.{ChainAnswer}
 use Rattle.dock.specs.declared.CheckAnswer.{CheckAnswer}
 use Rattle.dock.specs.declared.StartAnswer.{StartAnswer}
 use Rattle.dock.specs.declared.ReaderState.{ReaderState}
@@ -36,7 +38,13 @@ scheduleAnswer e = record { number = keyNumber (e .answer); words = e .schedule 
 abbrev pub blockAnswer : Ciphered → BlockAnswer
 blockAnswer c = record { number = keyNumber (c .answer); block = c .block }
 
--- the output after a call of a mode
+-- the answer of a call of a mode, and the output after it
+unfoldable pub modeApplied : Operation → (key iv inp out : List ℕ) → Applied
+modeApplied o key iv inp out = answerWith (modeAnswer o key iv inp out) o key iv inp
+
+abbrev pub chainAnswer : Applied → ChainAnswer
+chainAnswer a = record { number = modeNumber (a .answer); next = a .next }
+
 unfoldable pub afterMode : Operation → (key iv inp out : List ℕ) → List ℕ
 afterMode o key iv inp out = modeOutput (modeAnswer o key iv inp out) o key iv inp out
 

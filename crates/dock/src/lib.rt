@@ -21,7 +21,7 @@ ghost use Rattle.modes.specs.Calls.{modeNumber, modeAnswer};
 ghost use Rattle.cmac.specs.Calls.{checkOf, startOf, fedWith, closeOf};
 ghost use Rattle.image.specs.Calls as image;
 ghost use Rattle.wrap.specs.Calls.{wrapNumber, wrapAnswer, wrapOutput, unwrapAnswer, unwrapOutput};
-ghost use Rattle.dock.specs.Answers.{scheduleAnswer, blockAnswer, afterMode, checkAnswer, startAnswer, closeAnswer, readerOf, readStartAnswer, turnAnswer};
+ghost use Rattle.dock.specs.Answers.{scheduleAnswer, blockAnswer, chainAnswer, modeApplied, afterMode, checkAnswer, startAnswer, closeAnswer, readerOf, readStartAnswer, turnAnswer};
 
 // Sixteen bytes by value: C passes no array so.
 #[repr(C)]
@@ -41,6 +41,13 @@ pub struct ScheduleAnswer {
 pub struct BlockAnswer {
     pub number: u32,
     pub block: [u8; 16],
+}
+
+// `next` is the chaining value that a mode hands on, zeros where the call was refused.
+#[repr(C)]
+pub struct ChainAnswer {
+    pub number: u32,
+    pub next: [u8; 16],
 }
 
 #[repr(C)]
@@ -126,7 +133,7 @@ pub extern "C" fn dock_decrypt(key: &[u8], block: Block) -> BlockAnswer
     block_answer(cipher::decrypt(key, bytes))
 }
 
-// The modes: the IV is empty in ECB and 16 bytes in the others.
+// The modes: the IV is empty in ECB and 16 bytes in the others. ECB has no chaining value to hand on.
 #[no_mangle]
 pub extern "C" fn dock_ecb_encrypt(key: &[u8], iv: &[u8], input: &[u8], output: &mut [u8]) -> u32
     ensures answer { λ r. ⌜ r ≡ modeNumber (modeAnswer EcbEncrypt (now (key .entry)) (now (iv .entry)) (now (input .entry)) (now (output .entry))) ⌝ }
@@ -144,43 +151,63 @@ pub extern "C" fn dock_ecb_decrypt(key: &[u8], iv: &[u8], input: &[u8], output: 
 }
 
 #[no_mangle]
-pub extern "C" fn dock_cbc_encrypt(key: &[u8], iv: &[u8], input: &[u8], output: &mut [u8]) -> u32
-    ensures answer { λ r. ⌜ r ≡ modeNumber (modeAnswer CbcEncrypt (now (key .entry)) (now (iv .entry)) (now (input .entry)) (now (output .entry))) ⌝ }
+pub extern "C" fn dock_cbc_encrypt(
+    key: &[u8],
+    iv: &[u8],
+    input: &[u8],
+    output: &mut [u8],
+) -> ChainAnswer
+    ensures answer { λ r. ⌜ r ≡ chainAnswer (modeApplied CbcEncrypt (now (key .entry)) (now (iv .entry)) (now (input .entry)) (now (output .entry))) ⌝ }
     ensures written { λ _. ⌜ now (output .exit) ≡ afterMode CbcEncrypt (now (key .entry)) (now (iv .entry)) (now (input .entry)) (now (output .entry)) ⌝ }
 {
-    moded(Operation::CbcEncrypt, key, iv, input, output)
+    chained(Operation::CbcEncrypt, key, iv, input, output)
 }
 
 #[no_mangle]
-pub extern "C" fn dock_cbc_decrypt(key: &[u8], iv: &[u8], input: &[u8], output: &mut [u8]) -> u32
-    ensures answer { λ r. ⌜ r ≡ modeNumber (modeAnswer CbcDecrypt (now (key .entry)) (now (iv .entry)) (now (input .entry)) (now (output .entry))) ⌝ }
+pub extern "C" fn dock_cbc_decrypt(
+    key: &[u8],
+    iv: &[u8],
+    input: &[u8],
+    output: &mut [u8],
+) -> ChainAnswer
+    ensures answer { λ r. ⌜ r ≡ chainAnswer (modeApplied CbcDecrypt (now (key .entry)) (now (iv .entry)) (now (input .entry)) (now (output .entry))) ⌝ }
     ensures written { λ _. ⌜ now (output .exit) ≡ afterMode CbcDecrypt (now (key .entry)) (now (iv .entry)) (now (input .entry)) (now (output .entry)) ⌝ }
 {
-    moded(Operation::CbcDecrypt, key, iv, input, output)
+    chained(Operation::CbcDecrypt, key, iv, input, output)
 }
 
 #[no_mangle]
-pub extern "C" fn dock_cfb_encrypt(key: &[u8], iv: &[u8], input: &[u8], output: &mut [u8]) -> u32
-    ensures answer { λ r. ⌜ r ≡ modeNumber (modeAnswer CfbEncrypt (now (key .entry)) (now (iv .entry)) (now (input .entry)) (now (output .entry))) ⌝ }
+pub extern "C" fn dock_cfb_encrypt(
+    key: &[u8],
+    iv: &[u8],
+    input: &[u8],
+    output: &mut [u8],
+) -> ChainAnswer
+    ensures answer { λ r. ⌜ r ≡ chainAnswer (modeApplied CfbEncrypt (now (key .entry)) (now (iv .entry)) (now (input .entry)) (now (output .entry))) ⌝ }
     ensures written { λ _. ⌜ now (output .exit) ≡ afterMode CfbEncrypt (now (key .entry)) (now (iv .entry)) (now (input .entry)) (now (output .entry)) ⌝ }
 {
-    moded(Operation::CfbEncrypt, key, iv, input, output)
+    chained(Operation::CfbEncrypt, key, iv, input, output)
 }
 
 #[no_mangle]
-pub extern "C" fn dock_cfb_decrypt(key: &[u8], iv: &[u8], input: &[u8], output: &mut [u8]) -> u32
-    ensures answer { λ r. ⌜ r ≡ modeNumber (modeAnswer CfbDecrypt (now (key .entry)) (now (iv .entry)) (now (input .entry)) (now (output .entry))) ⌝ }
+pub extern "C" fn dock_cfb_decrypt(
+    key: &[u8],
+    iv: &[u8],
+    input: &[u8],
+    output: &mut [u8],
+) -> ChainAnswer
+    ensures answer { λ r. ⌜ r ≡ chainAnswer (modeApplied CfbDecrypt (now (key .entry)) (now (iv .entry)) (now (input .entry)) (now (output .entry))) ⌝ }
     ensures written { λ _. ⌜ now (output .exit) ≡ afterMode CfbDecrypt (now (key .entry)) (now (iv .entry)) (now (input .entry)) (now (output .entry)) ⌝ }
 {
-    moded(Operation::CfbDecrypt, key, iv, input, output)
+    chained(Operation::CfbDecrypt, key, iv, input, output)
 }
 
 #[no_mangle]
-pub extern "C" fn dock_ofb(key: &[u8], iv: &[u8], input: &[u8], output: &mut [u8]) -> u32
-    ensures answer { λ r. ⌜ r ≡ modeNumber (modeAnswer Ofb (now (key .entry)) (now (iv .entry)) (now (input .entry)) (now (output .entry))) ⌝ }
+pub extern "C" fn dock_ofb(key: &[u8], iv: &[u8], input: &[u8], output: &mut [u8]) -> ChainAnswer
+    ensures answer { λ r. ⌜ r ≡ chainAnswer (modeApplied Ofb (now (key .entry)) (now (iv .entry)) (now (input .entry)) (now (output .entry))) ⌝ }
     ensures written { λ _. ⌜ now (output .exit) ≡ afterMode Ofb (now (key .entry)) (now (iv .entry)) (now (input .entry)) (now (output .entry)) ⌝ }
 {
-    moded(Operation::Ofb, key, iv, input, output)
+    chained(Operation::Ofb, key, iv, input, output)
 }
 
 #[no_mangle]
@@ -310,8 +337,28 @@ fn moded(operation: Operation, key: &[u8], iv: &[u8], input: &[u8], output: &mut
     ensures answer { λ r. ⌜ r ≡ modeNumber (modeAnswer operation (now (key .entry)) (now (iv .entry)) (now (input .entry)) (now (output .entry))) ⌝ }
     ensures written { λ _. ⌜ now (output .exit) ≡ afterMode operation (now (key .entry)) (now (iv .entry)) (now (input .entry)) (now (output .entry)) ⌝ }
 {
-    let answer = modes::apply(operation, key, iv, input, output);
+    let a = modes::apply(operation, key, iv, input, output);
+    let answer = a.answer;
     answer.number()
+}
+
+fn chained(
+    operation: Operation,
+    key: &[u8],
+    iv: &[u8],
+    input: &[u8],
+    output: &mut [u8],
+) -> ChainAnswer
+    ensures answer { λ r. ⌜ r ≡ chainAnswer (modeApplied operation (now (key .entry)) (now (iv .entry)) (now (input .entry)) (now (output .entry))) ⌝ }
+    ensures written { λ _. ⌜ now (output .exit) ≡ afterMode operation (now (key .entry)) (now (iv .entry)) (now (input .entry)) (now (output .entry)) ⌝ }
+{
+    let a = modes::apply(operation, key, iv, input, output);
+    let answer = a.answer;
+    let next = a.next;
+    ChainAnswer {
+        number: answer.number(),
+        next,
+    }
 }
 
 fn turn_answer(t: Turn) -> TurnAnswer

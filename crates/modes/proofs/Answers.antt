@@ -1,4 +1,4 @@
--- What an answer says: that every test before it passed; a refusal leaves the output as it was. Assumes nothing.
+-- What an answer says: that every test before it passed; a refusal leaves the output as it was and hands on zeros. Assumes nothing.
 use mathlib.Core.Path.{_≡_, refl}
 use mathlib.Core.Bool.{Bool, true, false}
 use mathlib.Core.List.{List}
@@ -6,9 +6,10 @@ use Prim.Native.Nat.{ℕ, _%_, _≤_}
 use native.Mathlib.Omega.{arith}
 use borrow.Author.Tests.{eqb-true, ltb-false}
 use lib.Dec.{eqb, ltb}
+use lib.ListN.{replicate}
 use Rattle.octets.specs.Octets.{choose}
 use Rattle.sp800_38a.specs.Modes.{anyLength, Unless}
-use Rattle.modes.specs.Calls.{leftOver, judged, modeNumber, modeOutput}
+use Rattle.modes.specs.Calls.{leftOver, judged, modeNumber, modeOutput, modeNext}
 use Rattle.sp800_38a.specs.declared.Operation.{Operation}
 use Rattle.modes.specs.declared.ModeAnswer.{ModeAnswer}
 use Rattle.modes.specs.declared.ModeAnswer.the-variants.{Done, BadKey, BadIv, NotPieces, OutputShort}
@@ -55,3 +56,10 @@ kept BadKey o key iv inp out h = refl
 kept BadIv o key iv inp out h = refl
 kept NotPieces o key iv inp out h = refl
 kept OutputShort o key iv inp out h = refl
+
+pub zeros : (a : ModeAnswer) (o : Operation) (key iv inp : List ℕ) → (modeNumber a ≡ 0 → ⊥) → modeNext a o key iv inp ≡ replicate 16 0
+zeros Done o key iv inp h = absurd (h refl)
+zeros BadKey o key iv inp h = refl
+zeros BadIv o key iv inp h = refl
+zeros NotPieces o key iv inp h = refl
+zeros OutputShort o key iv inp h = refl

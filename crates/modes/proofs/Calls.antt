@@ -4,7 +4,7 @@ use mathlib.Core.List.{List, [], _∷_}
 use Prim.Native.Nat.{ℕ}
 use types.Run.{OneOf, miss}
 use denote.Enum.Declared.{tagOf}
-use lib.ListN.{length}
+use lib.ListN.{length, replicate}
 use Rattle.octets.specs.Octets.{Bytes}
 use Rattle.sbox.specs.Sbox.{sBox}
 use Rattle.schedule.specs.Schedule.{scheduleOf, keyNumber}
@@ -15,12 +15,13 @@ use Rattle.lookups.specs.Lookups.{tableCipher, inverseWords}
 use Rattle.tables.specs.Tables.{forwardTable, inverseTable}
 use Rattle.lookups.proofs.Lawful.{lent-agrees}
 use Rattle.fips197.proofs.Aes.{key-lawful}
-use Rattle.modes.specs.Calls.{leftOver, judged, modeAnswer, modeOutput}
+use Rattle.modes.specs.Calls.{leftOver, judged, modeAnswer, modeOutput, modeNext, answerWith}
 use Rattle.sp800_38a.specs.Pieces.{pieceCount}
 use Rattle.sp800_38a.specs.Modes.{ivLength}
 use Rattle.pieces.specs.Runs.{runOver}
-use Rattle.pieces.proofs.Agree.{through-mode, iv-chain, iv-same}
+use Rattle.pieces.proofs.Agree.{through-mode, iv-chain, iv-same, handed-iv}
 use Rattle.sp800_38a.specs.declared.Operation.{Operation}
+use Rattle.modes.specs.declared.Applied.{Applied}
 use Rattle.modes.specs.declared.ModeAnswer.{ModeAnswer}
 use Rattle.modes.specs.declared.ModeAnswer.the-variants.{Done, BadKey, BadIv, NotPieces, OutputShort}
 use Rattle.modes.proofs.ModeAnswer.{the-type}
@@ -35,6 +36,19 @@ refused-keeps BadIv o key iv inp out h = refl
 refused-keeps NotPieces o key iv inp out h = refl
 refused-keeps OutputShort o key iv inp out h = refl
 
+-- and hands on zeros
+pub refused-zeros : (a : ModeAnswer) (o : Operation) (key iv inp : List ℕ) → OneOf (1 ∷ 2 ∷ 3 ∷ 4 ∷ []) (tagOf the-type a) → modeNext a o key iv inp ≡ replicate 16 0
+refused-zeros Done o key iv inp h = absurd (miss (1 ∷ 2 ∷ 3 ∷ 4 ∷ []) 0 tt h)
+refused-zeros BadKey o key iv inp h = refl
+refused-zeros BadIv o key iv inp h = refl
+refused-zeros NotPieces o key iv inp h = refl
+refused-zeros OutputShort o key iv inp h = refl
+
+-- an answer and a chaining value, each as told
+pub same-applied : (a b : ModeAnswer) (x : List ℕ) (o : Operation) (key iv inp : List ℕ) → a ≡ b → x ≡ modeNext a o key iv inp
+    → _≡_ {A = Applied} (record { answer = a; next = x }) (answerWith b o key iv inp)
+same-applied a b x o key iv inp e q = rw (q, e)
+
 -- e is the schedule that the call makes, r the answer
 module _ (o : Operation) (key iv inp out : List ℕ) (e : Expanded) (r : ModeAnswer) (pe : e ≡ scheduleOf sBox key)
     (pr : r ≡ judged (keyNumber (e .answer)) (ivLength 16 o) (length iv) (leftOver o (length inp)) (length inp) (length out)) where
@@ -44,7 +58,7 @@ module _ (o : Operation) (key iv inp out : List ℕ) (e : Expanded) (r : ModeAns
 
   pub written : (b st x : List ℕ) → b ≡ blockAt iv 0 → Bytes iv → Bytes inp → r ≡ Done
       → (st, x) ≡ runOver (tableCipher forwardTable inverseTable (e .schedule .words) (inverseWords (e .schedule .words) (e .schedule .rounds)) (e .schedule .rounds)) o b inp out
-      → x ≡ modeOutput r o key iv inp out
+      → (st ≡ modeNext r o key iv inp) × (x ≡ modeOutput r o key iv inp out)
   unfolding modeAnswer
   written b st x pb bi bs d po =
       let f = met (keyNumber (scheduleOf sBox key .answer)) (ivLength 16 o) (length iv) (leftOver o (length inp)) (length inp) (length out) (sym answered ∙ d) in
@@ -52,4 +66,7 @@ module _ (o : Operation) (key iv inp out : List ℕ) (e : Expanded) (r : ModeAns
       let c = tableCipher forwardTable inverseTable (k .words) (inverseWords (k .words) (k .rounds)) (k .rounds) in
       let p : (st, x) ≡ runOver c o (blockAt iv 0) inp out = po ∙ rw (pb, pe) in
       let q = through-mode c (aesOf key) (lent-agrees (k .words) (k .rounds)) (key-lawful key (f .key-taken)) o (blockAt iv 0) inp (iv-chain o iv (f .iv-right) bi) bs (left-none o (length inp) (f .taken)) out (f .room) in
-      ap (λ (t : List ℕ × List ℕ). t .1) (p ∙ q) ∙ rw (d, iv-same (aesOf key) iv (pieceCount 16 inp) inp o (f .iv-right))
+      let n = pieceCount 16 inp in (
+        ap (λ (t : List ℕ × List ℕ). t .0) (p ∙ q) ∙ rw d (handed-iv (aesOf key) iv n inp o (f .iv-right)),
+        ap (λ (t : List ℕ × List ℕ). t .1) (p ∙ q) ∙ rw (d, iv-same (aesOf key) iv n inp o (f .iv-right)),
+      )

@@ -1,14 +1,15 @@
--- What a call of a mode answers and writes. Assumes nothing: these are definitions.
+-- What a call of a mode answers, writes and hands on. Assumes nothing: these are definitions.
 use Prim.Native.Nat.{ℕ, _%_}
 use mathlib.Core.List.{List}
 use lib.Dec.{eqb, ltb}
-use lib.ListN.{length}
+use lib.ListN.{length, replicate}
 use Rattle.octets.specs.Octets.{choose, over}
 use Rattle.sbox.specs.Sbox.{sBox}
 use Rattle.schedule.specs.Schedule.{scheduleOf, keyNumber}
 use Rattle.fips197.specs.Cipher.{aesOf}
-use Rattle.sp800_38a.specs.Modes.{ivLength, anyLength, moded}
+use Rattle.sp800_38a.specs.Modes.{ivLength, anyLength, chains, moded, handedOn}
 use Rattle.sp800_38a.specs.declared.Operation.{Operation}
+use Rattle.modes.specs.declared.Applied.{Applied}
 use Rattle.modes.specs.declared.ModeAnswer.{ModeAnswer}
 use Rattle.modes.specs.declared.ModeAnswer.the-variants.{Done, BadKey, BadIv, NotPieces, OutputShort}
 
@@ -43,3 +44,14 @@ modeOutput BadKey o key iv inp out = out
 modeOutput BadIv o key iv inp out = out
 modeOutput NotPieces o key iv inp out = out
 modeOutput OutputShort o key iv inp out = out
+
+-- the chaining value beside an answer: what the operation hands on; zeros in ECB, which has none, and after a refusal
+abbrev pub modeNext : ModeAnswer → Operation → (key iv inp : List ℕ) → List ℕ
+modeNext Done o key iv inp = choose (chains o) (handedOn 16 (aesOf key) o iv inp) (replicate 16 0)
+modeNext BadKey o key iv inp = replicate 16 0
+modeNext BadIv o key iv inp = replicate 16 0
+modeNext NotPieces o key iv inp = replicate 16 0
+modeNext OutputShort o key iv inp = replicate 16 0
+
+abbrev pub answerWith : ModeAnswer → Operation → (key iv inp : List ℕ) → Applied
+answerWith r o key iv inp = record { answer = r; next = modeNext r o key iv inp }

@@ -14,7 +14,7 @@ ghost use Rattle.tables.specs.Tables.{forwardTable, inverseTable};
 ghost use Rattle.sp800_38a.specs.Modes.{ivLength};
 ghost use Rattle.sp800_38a.specs.Modes as standard;
 ghost use Rattle.pieces.specs.Runs.{runOver};
-ghost use Rattle.modes.specs.Calls.{modeNumber, leftOver, judged, modeAnswer, modeOutput};
+ghost use Rattle.modes.specs.Calls.{modeNumber, leftOver, judged, modeAnswer, modeOutput, answerWith};
 
 pub enum ModeAnswer {
     Done,
@@ -38,17 +38,24 @@ impl ModeAnswer {
     }
 }
 
+// An answer, and the chaining value handed on: the last ciphertext block, in OFB the last cipher output, for an empty input the IV.
+// As the IV of another call it lets more bytes go on from here. It is zeros in ECB, which chains nothing, and in a refused call.
+pub struct Applied {
+    pub answer: ModeAnswer,
+    pub next: [u8; 16],
+}
+
 // Encrypts or decrypts the input under a key; the IV is empty in ECB and 16 bytes in the others.
-// A refused call leaves the output as it was, and so do bytes of it past the input's length.
+// A refused call leaves the output as it was, and every call leaves bytes of it past the input's length.
 pub fn apply(
     operation: Operation,
     key: &[u8],
     iv: &[u8],
     input: &[u8],
     output: &mut [u8],
-) -> ModeAnswer
-    ensures answer { λ r. ⌜ r ≡ modeAnswer operation (now (key .entry)) (now (iv .entry)) (now (input .entry)) (now (output .entry)) ⌝ }
-    ensures written { λ r. ⌜ now (output .exit) ≡ modeOutput r operation (now (key .entry)) (now (iv .entry)) (now (input .entry)) (now (output .entry)) ⌝ }
+) -> Applied
+    ensures answer { λ r. ⌜ r ≡ answerWith (modeAnswer operation (now (key .entry)) (now (iv .entry)) (now (input .entry)) (now (output .entry))) operation (now (key .entry)) (now (iv .entry)) (now (input .entry)) ⌝ }
+    ensures written { λ r. ⌜ now (output .exit) ≡ modeOutput (r .answer) operation (now (key .entry)) (now (iv .entry)) (now (input .entry)) (now (output .entry)) ⌝ }
 {
     let made = KeySchedule::new(key);
     let taken = made.answer;
@@ -56,17 +63,14 @@ pub fn apply(
     let words = schedule.words;
     let answer = judge(taken, operation, iv.len(), input.len(), output.len());
     let ModeAnswer::Done = answer else {
-        return answer;
+        return Applied {
+            answer,
+            next: [0; 16],
+        };
     };
-    under_schedule(
-        &words,
-        schedule.rounds,
-        operation,
-        load(iv, 0),
-        input,
-        output,
-    );
-    answer
+    let start = load(iv, 0);
+    let next = under_schedule(&words, schedule.rounds, operation, start, input, output);
+    Applied { answer, next }
 }
 
 // Runs through an operation under a schedule, with the one table that it looks up in; the answer is what the next piece is chained to.

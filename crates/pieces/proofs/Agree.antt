@@ -5,7 +5,7 @@ use mathlib.Core.List.{List, [], _++_, append-nil}
 use Prim.Native.Nat.{ℕ, zero, suc, _*_, _/_, _%_, _≤_, min}
 use native.Mathlib.Nat.{zero-lt-suc}
 use native.Mathlib.Omega.{arith}
-use lib.ListN.{length, take, drop, drop-of-length-le}
+use lib.ListN.{length, take, drop, replicate, drop-of-length-le}
 use lib.Seq.{take-all}
 use Rattle.octets.specs.Octets.{choose, Bytes, over}
 use Rattle.octets.specs.Blocks.{BlockCipher, Lawful}
@@ -13,8 +13,8 @@ use Rattle.blocks.specs.Blocks.{blockAt}
 use Rattle.blocks.proofs.Laws.{block-at, block-octets}
 use Rattle.lookups.specs.Lookups.{tableCipher, oneTable}
 use Rattle.lookups.proofs.Lawful.{Agree}
-use Rattle.sp800_38a.specs.Pieces.{outputOf, after, pieceCount}
-use Rattle.sp800_38a.specs.Modes.{machine, inverts, ivLength, anyLength, Unless, moded}
+use Rattle.sp800_38a.specs.Pieces.{outputOf, after}
+use Rattle.sp800_38a.specs.Modes.{machine, inverts, ivLength, anyLength, chains, Unless, moded, handedOn}
 use Rattle.sp800_38a.specs.declared.Operation.{Operation}
 use Rattle.sp800_38a.specs.declared.Operation.the-variants.{EcbEncrypt, EcbDecrypt, CbcEncrypt, CbcDecrypt, CfbEncrypt, CfbDecrypt, Ofb}
 use Rattle.sp800_38a.proofs.Undo.{ChainOf}
@@ -72,7 +72,17 @@ ecb-any c o x y st st' (suc n) s =
     (ap (λ (t : List ℕ). outputOf 16 (machine c o) t n (drop 16 s)) (x st (take 16 s)) ∙ ecb-any c o x y st st' n (drop 16 s)
     ∙ ap (λ (t : List ℕ). outputOf 16 (machine c o) t n (drop 16 s)) (sym (x st' (take 16 s))))
 
--- an IV of 16 bytes, loaded as a block
+-- and it hands on the one that it was given
+ecb-after : (c : BlockCipher) (o : Operation) → ((st p : List ℕ) → machine c o .next st p ≡ st) → (st : List ℕ) (n : ℕ) (s : List ℕ) → after 16 (machine c o) st n s ≡ st
+unfolding after
+ecb-after c o x st zero s = refl
+ecb-after c o x st (suc n) s = ecb-after c o x (machine c o .next st (take 16 s)) n (drop 16 s) ∙ x st (take 16 s)
+
+-- an IV of no bytes, loaded as a block, and one of 16 bytes
+none-loaded : (iv : List ℕ) → length iv ≡ 0 → blockAt iv 0 ≡ replicate 16 0
+unfolding blockAt
+none-loaded iv e = rw e
+
 loaded : (iv : List ℕ) → length iv ≡ 16 → blockAt iv 0 ≡ iv
 loaded iv e = block-at iv 0 (omega arith) ∙ take-all 16 iv (omega arith)
 
@@ -107,6 +117,19 @@ module _ (c : BlockCipher) (iv : List ℕ) (n : ℕ) (s : List ℕ) where
   iv-same CfbDecrypt e = block-iv CfbDecrypt e
   iv-same Ofb e = block-iv Ofb e
 
+  handed-chain : (o : Operation) → length iv ≡ 16 → after 16 (machine c o) (blockAt iv 0) n s ≡ after 16 (machine c o) iv n s
+  handed-chain o e = ap (λ (x : List ℕ). after 16 (machine c o) x n s) (loaded iv e)
+
+  -- what is handed on from the IV as it was loaded: zeros in ECB
+  pub handed-iv : (o : Operation) → length iv ≡ ivLength 16 o → after 16 (machine c o) (blockAt iv 0) n s ≡ choose (chains o) (after 16 (machine c o) iv n s) (replicate 16 0)
+  handed-iv EcbEncrypt e = ecb-after c EcbEncrypt (λ st p. refl) (blockAt iv 0) n s ∙ none-loaded iv e
+  handed-iv EcbDecrypt e = ecb-after c EcbDecrypt (λ st p. refl) (blockAt iv 0) n s ∙ none-loaded iv e
+  handed-iv CbcEncrypt e = handed-chain CbcEncrypt e
+  handed-iv CbcDecrypt e = handed-chain CbcDecrypt e
+  handed-iv CfbEncrypt e = handed-chain CfbEncrypt e
+  handed-iv CfbDecrypt e = handed-chain CfbDecrypt e
+  handed-iv Ofb e = handed-chain Ofb e
+
 -- ---- an input that a run takes whole
 
 -- as long as the output at most, and whole pieces where any length does not go
@@ -124,7 +147,7 @@ whole-always false n h = h
 
 -- a run whose input and output are as long, and whole pieces: the operation, whatever the cipher
 pub through-whole : (c : BlockCipher) (o : Operation) (iv inp out : List ℕ) → length inp % 16 ≡ 0 → length inp ≡ length out
-    → runOver c o iv inp out ≡ (after 16 (machine c o) iv (pieceCount 16 inp) inp, moded 16 c o iv inp)
+    → runOver c o iv inp out ≡ (handedOn 16 c o iv inp, moded 16 c o iv inp)
 unfolding runOver
 through-whole c o iv inp out h e =
     let z : drop (length inp) out ≡ [] = drop-of-length-le out {i = length inp} (omega arith) in
@@ -134,7 +157,7 @@ module _ (c d : BlockCipher) (a : Agree c d) (l : Lawful 16 d) (o : Operation) (
     (h : Unless (anyLength o) (length inp % 16 ≡ 0)) where
   -- a run over one cipher is the operation over the other, over the front of the output
   pub through-mode : (out : List ℕ) → length inp ≤ length out
-      → runOver c o st inp out ≡ (after 16 (machine d o) st (pieceCount 16 inp) inp, over (moded 16 d o st inp) out)
+      → runOver c o st inp out ≡ (handedOn 16 d o st inp, over (moded 16 d o st inp) out)
   unfolding runOver
   through-mode out r =
       let some = zero-lt-suc 15 in

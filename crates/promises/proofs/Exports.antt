@@ -15,7 +15,9 @@ use contract.Monad.{Fun, fact, factI, fact-use}
 use contract.Lifetimes.{Lfts}
 use denote.Ref.{RefT, now}
 use lib.Dec.{eqb}
+use lib.ListN.{replicate}
 use Rattle.modes.specs.Calls.{modeNumber, modeAnswer}
+use Rattle.modes.specs.declared.Applied.{Applied}
 use Rattle.sp800_38a.specs.declared.Operation.{Operation}
 use Rattle.sp800_38a.specs.declared.Operation.the-variants.{EcbEncrypt, EcbDecrypt, CbcEncrypt, CbcDecrypt, CfbEncrypt, CfbDecrypt, Ofb}
 use Rattle.image.specs.Calls.{startOf, turnOf, writeNumber, completionNumber}
@@ -24,13 +26,14 @@ use Rattle.image.specs.declared.Stop.{Stop}
 use Rattle.image.specs.declared.Stop.the-variants.{End, Asked, Lent, Room, At}
 use Rattle.image.specs.declared.Turn.{Turn}
 use Rattle.wrap.specs.Calls.{wrapNumber}
-use Rattle.dock.specs.Answers.{scheduleAnswer, blockAnswer, afterMode, checkAnswer, startAnswer, closeAnswer, flagOf, readerOf, stateOf, readStartAnswer, toldOf, turnAnswer}
+use Rattle.dock.specs.Answers.{scheduleAnswer, blockAnswer, modeApplied, chainAnswer, afterMode, checkAnswer, startAnswer, closeAnswer, flagOf, readerOf, stateOf, readStartAnswer, toldOf, turnAnswer}
+use Rattle.dock.specs.declared.ChainAnswer.{ChainAnswer}
 use Rattle.dock.specs.declared.ReaderState.{ReaderState}
 use Rattle.dock.specs.declared.ReadStartAnswer.{ReadStartAnswer}
 use Rattle.dock.specs.declared.TurnAnswer.{TurnAnswer}
 use Rattle.promises.proofs.ImageTerms.{Whole}
 use Rattle.promises.proofs.Image.{turn-refusal-keeps}
-use Rattle.promises.proofs.Modes.{apply-refused-keeps}
+use Rattle.promises.proofs.Modes.{apply-refused-keeps, apply-refused-zeros}
 use Rattle.promises.proofs.ImageDemands.{write-refused-keeps}
 use Rattle.promises.proofs.WrapDemands.{wrap-refused-keeps, unwrap-refused-keeps}
 use Rattle.field.proofs.product.Reads as product
@@ -128,16 +131,35 @@ dock-decrypt-is-decrypt κs a r s p = (_, refl, p)
 abbrev pub Slices : Type 0
 Slices = RefT (List ℕ) × (RefT (List ℕ) × (RefT (List ℕ) × (RefT (List ℕ) × Unit {0})))
 
-abbrev pub AsApply : Operation → Lfts 4 → Slices → ℕ → Slices → Type 0
-AsApply o κs a r s = AsBelow modeNumber (λ x. apply.Post κs (o, a) x (o, s)) r
+abbrev pub AsApply : {R : Type 0} → (Applied → R) → Operation → Lfts 4 → Slices → R → Slices → Type 0
+AsApply told o κs a r s = AsBelow told (λ x. apply.Post κs (o, a) x (o, s)) r
+
+-- ECB answers the number alone, the others beside it what is handed on
+abbrev pub appliedNumber : Applied → ℕ
+appliedNumber x = modeNumber (x .answer)
 
 applied : (o : Operation) (κs : Lfts 4) (a : Slices) (r : ℕ) (s : Slices) → r ≡ modeNumber (modeAnswer o (now (a .0)) (now (a .1 .0)) (now (a .1 .1 .0)) (now (a .1 .1 .1 .0)))
-    → now (s .1 .1 .1 .0) ≡ afterMode o (now (a .0)) (now (a .1 .0)) (now (a .1 .1 .0)) (now (a .1 .1 .1 .0)) → AsApply o κs a r s
+    → now (s .1 .1 .1 .0) ≡ afterMode o (now (a .0)) (now (a .1 .0)) (now (a .1 .1 .0)) (now (a .1 .1 .1 .0)) → AsApply appliedNumber o κs a r s
 unfolding afterMode
 applied o κs a r s e w = (_, (refl, w), e)
 
-apply-keeps : (o : Operation) (κs : Lfts 4) (a : Slices) (r : ℕ) (s : Slices) → AsApply o κs a r s → (r ≡ 0 → ⊥) → now (s .1 .1 .1 .0) ≡ now (a .1 .1 .1 .0)
+chained : (o : Operation) (κs : Lfts 4) (a : Slices) (r : ChainAnswer) (s : Slices) → r ≡ chainAnswer (modeApplied o (now (a .0)) (now (a .1 .0)) (now (a .1 .1 .0)) (now (a .1 .1 .1 .0)))
+    → now (s .1 .1 .1 .0) ≡ afterMode o (now (a .0)) (now (a .1 .0)) (now (a .1 .1 .0)) (now (a .1 .1 .1 .0)) → AsApply chainAnswer o κs a r s
+unfolding afterMode modeApplied
+chained o κs a r s e w = (_, (refl, w), e)
+
+apply-keeps : (o : Operation) (κs : Lfts 4) (a : Slices) (r : ℕ) (s : Slices) → AsApply appliedNumber o κs a r s → (r ≡ 0 → ⊥) → now (s .1 .1 .1 .0) ≡ now (a .1 .1 .1 .0)
 apply-keeps o κs a r s b h = refused-below b (λ x q. apply-refused-keeps κs (o, a) x (o, s) q) h
+
+-- a refused call leaves the output as it was, and hands on zeros
+chain-keeps : (o : Operation) (κs : Lfts 4) (a : Slices) (r : ChainAnswer) (s : Slices) → AsApply chainAnswer o κs a r s → (r .number ≡ 0 → ⊥)
+    → (now (s .1 .1 .1 .0) ≡ now (a .1 .1 .1 .0)) × (r .next ≡ replicate 16 0)
+chain-keeps o κs a r s b h =
+    let e : r ≡ chainAnswer (b .0) = b .2 in
+    let no-zero : modeNumber (b .0 .answer) ≡ 0 → ⊥ = λ z. h (ap (λ (x : ChainAnswer). x .number) e ∙ z) in (
+      apply-refused-keeps κs (o, a) (b .0) (o, s) (b .1) no-zero,
+      ap (λ (x : ChainAnswer). x .next) e ∙ apply-refused-zeros κs (o, a) (b .0) (o, s) (b .1) no-zero,
+    )
 
 pub dock-ecb-encrypt-asks-nothing : (κs : _) (a : _) → dock-ecb-encrypt.Asked κs a
 dock-ecb-encrypt-asks-nothing κs a = tt
@@ -146,7 +168,7 @@ pub dock-ecb-encrypt-determined : (κs : _) (a : _) (r r′ : _) (s s′ : _) �
     → (r ≡ r′) × (now (s .1 .1 .1 .0) ≡ now (s′ .1 .1 .1 .0))
 dock-ecb-encrypt-determined κs a r r′ s s′ p q = (p .0 ∙ sym (q .0), p .1 ∙ sym (q .1))
 
-pub dock-ecb-encrypt-is-apply : (κs : _) (a : _) (r : _) (s : _) → dock-ecb-encrypt.Post κs a r s → AsApply EcbEncrypt κs a r s
+pub dock-ecb-encrypt-is-apply : (κs : _) (a : _) (r : _) (s : _) → dock-ecb-encrypt.Post κs a r s → AsApply appliedNumber EcbEncrypt κs a r s
 dock-ecb-encrypt-is-apply κs a r s p = applied EcbEncrypt κs a r s (p .0) (p .1)
 
 pub dock-ecb-encrypt-refused-keeps : (κs : _) (a : _) (r : _) (s : _) → dock-ecb-encrypt.Post κs a r s → (r ≡ 0 → ⊥) → now (s .1 .1 .1 .0) ≡ now (a .1 .1 .1 .0)
@@ -159,7 +181,7 @@ pub dock-ecb-decrypt-determined : (κs : _) (a : _) (r r′ : _) (s s′ : _) �
     → (r ≡ r′) × (now (s .1 .1 .1 .0) ≡ now (s′ .1 .1 .1 .0))
 dock-ecb-decrypt-determined κs a r r′ s s′ p q = (p .0 ∙ sym (q .0), p .1 ∙ sym (q .1))
 
-pub dock-ecb-decrypt-is-apply : (κs : _) (a : _) (r : _) (s : _) → dock-ecb-decrypt.Post κs a r s → AsApply EcbDecrypt κs a r s
+pub dock-ecb-decrypt-is-apply : (κs : _) (a : _) (r : _) (s : _) → dock-ecb-decrypt.Post κs a r s → AsApply appliedNumber EcbDecrypt κs a r s
 dock-ecb-decrypt-is-apply κs a r s p = applied EcbDecrypt κs a r s (p .0) (p .1)
 
 pub dock-ecb-decrypt-refused-keeps : (κs : _) (a : _) (r : _) (s : _) → dock-ecb-decrypt.Post κs a r s → (r ≡ 0 → ⊥) → now (s .1 .1 .1 .0) ≡ now (a .1 .1 .1 .0)
@@ -172,11 +194,12 @@ pub dock-cbc-encrypt-determined : (κs : _) (a : _) (r r′ : _) (s s′ : _) �
     → (r ≡ r′) × (now (s .1 .1 .1 .0) ≡ now (s′ .1 .1 .1 .0))
 dock-cbc-encrypt-determined κs a r r′ s s′ p q = (p .0 ∙ sym (q .0), p .1 ∙ sym (q .1))
 
-pub dock-cbc-encrypt-is-apply : (κs : _) (a : _) (r : _) (s : _) → dock-cbc-encrypt.Post κs a r s → AsApply CbcEncrypt κs a r s
-dock-cbc-encrypt-is-apply κs a r s p = applied CbcEncrypt κs a r s (p .0) (p .1)
+pub dock-cbc-encrypt-is-apply : (κs : _) (a : _) (r : _) (s : _) → dock-cbc-encrypt.Post κs a r s → AsApply chainAnswer CbcEncrypt κs a r s
+dock-cbc-encrypt-is-apply κs a r s p = chained CbcEncrypt κs a r s (p .0) (p .1)
 
-pub dock-cbc-encrypt-refused-keeps : (κs : _) (a : _) (r : _) (s : _) → dock-cbc-encrypt.Post κs a r s → (r ≡ 0 → ⊥) → now (s .1 .1 .1 .0) ≡ now (a .1 .1 .1 .0)
-dock-cbc-encrypt-refused-keeps κs a r s p h = apply-keeps CbcEncrypt κs a r s (dock-cbc-encrypt-is-apply κs a r s p) h
+pub dock-cbc-encrypt-refused-keeps : (κs : _) (a : _) (r : _) (s : _) → dock-cbc-encrypt.Post κs a r s → (r .number ≡ 0 → ⊥)
+    → (now (s .1 .1 .1 .0) ≡ now (a .1 .1 .1 .0)) × (r .next ≡ replicate 16 0)
+dock-cbc-encrypt-refused-keeps κs a r s p h = chain-keeps CbcEncrypt κs a r s (dock-cbc-encrypt-is-apply κs a r s p) h
 
 pub dock-cbc-decrypt-asks-nothing : (κs : _) (a : _) → dock-cbc-decrypt.Asked κs a
 dock-cbc-decrypt-asks-nothing κs a = tt
@@ -185,11 +208,12 @@ pub dock-cbc-decrypt-determined : (κs : _) (a : _) (r r′ : _) (s s′ : _) �
     → (r ≡ r′) × (now (s .1 .1 .1 .0) ≡ now (s′ .1 .1 .1 .0))
 dock-cbc-decrypt-determined κs a r r′ s s′ p q = (p .0 ∙ sym (q .0), p .1 ∙ sym (q .1))
 
-pub dock-cbc-decrypt-is-apply : (κs : _) (a : _) (r : _) (s : _) → dock-cbc-decrypt.Post κs a r s → AsApply CbcDecrypt κs a r s
-dock-cbc-decrypt-is-apply κs a r s p = applied CbcDecrypt κs a r s (p .0) (p .1)
+pub dock-cbc-decrypt-is-apply : (κs : _) (a : _) (r : _) (s : _) → dock-cbc-decrypt.Post κs a r s → AsApply chainAnswer CbcDecrypt κs a r s
+dock-cbc-decrypt-is-apply κs a r s p = chained CbcDecrypt κs a r s (p .0) (p .1)
 
-pub dock-cbc-decrypt-refused-keeps : (κs : _) (a : _) (r : _) (s : _) → dock-cbc-decrypt.Post κs a r s → (r ≡ 0 → ⊥) → now (s .1 .1 .1 .0) ≡ now (a .1 .1 .1 .0)
-dock-cbc-decrypt-refused-keeps κs a r s p h = apply-keeps CbcDecrypt κs a r s (dock-cbc-decrypt-is-apply κs a r s p) h
+pub dock-cbc-decrypt-refused-keeps : (κs : _) (a : _) (r : _) (s : _) → dock-cbc-decrypt.Post κs a r s → (r .number ≡ 0 → ⊥)
+    → (now (s .1 .1 .1 .0) ≡ now (a .1 .1 .1 .0)) × (r .next ≡ replicate 16 0)
+dock-cbc-decrypt-refused-keeps κs a r s p h = chain-keeps CbcDecrypt κs a r s (dock-cbc-decrypt-is-apply κs a r s p) h
 
 pub dock-cfb-encrypt-asks-nothing : (κs : _) (a : _) → dock-cfb-encrypt.Asked κs a
 dock-cfb-encrypt-asks-nothing κs a = tt
@@ -198,11 +222,12 @@ pub dock-cfb-encrypt-determined : (κs : _) (a : _) (r r′ : _) (s s′ : _) �
     → (r ≡ r′) × (now (s .1 .1 .1 .0) ≡ now (s′ .1 .1 .1 .0))
 dock-cfb-encrypt-determined κs a r r′ s s′ p q = (p .0 ∙ sym (q .0), p .1 ∙ sym (q .1))
 
-pub dock-cfb-encrypt-is-apply : (κs : _) (a : _) (r : _) (s : _) → dock-cfb-encrypt.Post κs a r s → AsApply CfbEncrypt κs a r s
-dock-cfb-encrypt-is-apply κs a r s p = applied CfbEncrypt κs a r s (p .0) (p .1)
+pub dock-cfb-encrypt-is-apply : (κs : _) (a : _) (r : _) (s : _) → dock-cfb-encrypt.Post κs a r s → AsApply chainAnswer CfbEncrypt κs a r s
+dock-cfb-encrypt-is-apply κs a r s p = chained CfbEncrypt κs a r s (p .0) (p .1)
 
-pub dock-cfb-encrypt-refused-keeps : (κs : _) (a : _) (r : _) (s : _) → dock-cfb-encrypt.Post κs a r s → (r ≡ 0 → ⊥) → now (s .1 .1 .1 .0) ≡ now (a .1 .1 .1 .0)
-dock-cfb-encrypt-refused-keeps κs a r s p h = apply-keeps CfbEncrypt κs a r s (dock-cfb-encrypt-is-apply κs a r s p) h
+pub dock-cfb-encrypt-refused-keeps : (κs : _) (a : _) (r : _) (s : _) → dock-cfb-encrypt.Post κs a r s → (r .number ≡ 0 → ⊥)
+    → (now (s .1 .1 .1 .0) ≡ now (a .1 .1 .1 .0)) × (r .next ≡ replicate 16 0)
+dock-cfb-encrypt-refused-keeps κs a r s p h = chain-keeps CfbEncrypt κs a r s (dock-cfb-encrypt-is-apply κs a r s p) h
 
 pub dock-cfb-decrypt-asks-nothing : (κs : _) (a : _) → dock-cfb-decrypt.Asked κs a
 dock-cfb-decrypt-asks-nothing κs a = tt
@@ -211,11 +236,12 @@ pub dock-cfb-decrypt-determined : (κs : _) (a : _) (r r′ : _) (s s′ : _) �
     → (r ≡ r′) × (now (s .1 .1 .1 .0) ≡ now (s′ .1 .1 .1 .0))
 dock-cfb-decrypt-determined κs a r r′ s s′ p q = (p .0 ∙ sym (q .0), p .1 ∙ sym (q .1))
 
-pub dock-cfb-decrypt-is-apply : (κs : _) (a : _) (r : _) (s : _) → dock-cfb-decrypt.Post κs a r s → AsApply CfbDecrypt κs a r s
-dock-cfb-decrypt-is-apply κs a r s p = applied CfbDecrypt κs a r s (p .0) (p .1)
+pub dock-cfb-decrypt-is-apply : (κs : _) (a : _) (r : _) (s : _) → dock-cfb-decrypt.Post κs a r s → AsApply chainAnswer CfbDecrypt κs a r s
+dock-cfb-decrypt-is-apply κs a r s p = chained CfbDecrypt κs a r s (p .0) (p .1)
 
-pub dock-cfb-decrypt-refused-keeps : (κs : _) (a : _) (r : _) (s : _) → dock-cfb-decrypt.Post κs a r s → (r ≡ 0 → ⊥) → now (s .1 .1 .1 .0) ≡ now (a .1 .1 .1 .0)
-dock-cfb-decrypt-refused-keeps κs a r s p h = apply-keeps CfbDecrypt κs a r s (dock-cfb-decrypt-is-apply κs a r s p) h
+pub dock-cfb-decrypt-refused-keeps : (κs : _) (a : _) (r : _) (s : _) → dock-cfb-decrypt.Post κs a r s → (r .number ≡ 0 → ⊥)
+    → (now (s .1 .1 .1 .0) ≡ now (a .1 .1 .1 .0)) × (r .next ≡ replicate 16 0)
+dock-cfb-decrypt-refused-keeps κs a r s p h = chain-keeps CfbDecrypt κs a r s (dock-cfb-decrypt-is-apply κs a r s p) h
 
 pub dock-ofb-asks-nothing : (κs : _) (a : _) → dock-ofb.Asked κs a
 dock-ofb-asks-nothing κs a = tt
@@ -224,11 +250,12 @@ pub dock-ofb-determined : (κs : _) (a : _) (r r′ : _) (s s′ : _) → dock-o
     → (r ≡ r′) × (now (s .1 .1 .1 .0) ≡ now (s′ .1 .1 .1 .0))
 dock-ofb-determined κs a r r′ s s′ p q = (p .0 ∙ sym (q .0), p .1 ∙ sym (q .1))
 
-pub dock-ofb-is-apply : (κs : _) (a : _) (r : _) (s : _) → dock-ofb.Post κs a r s → AsApply Ofb κs a r s
-dock-ofb-is-apply κs a r s p = applied Ofb κs a r s (p .0) (p .1)
+pub dock-ofb-is-apply : (κs : _) (a : _) (r : _) (s : _) → dock-ofb.Post κs a r s → AsApply chainAnswer Ofb κs a r s
+dock-ofb-is-apply κs a r s p = chained Ofb κs a r s (p .0) (p .1)
 
-pub dock-ofb-refused-keeps : (κs : _) (a : _) (r : _) (s : _) → dock-ofb.Post κs a r s → (r ≡ 0 → ⊥) → now (s .1 .1 .1 .0) ≡ now (a .1 .1 .1 .0)
-dock-ofb-refused-keeps κs a r s p h = apply-keeps Ofb κs a r s (dock-ofb-is-apply κs a r s p) h
+pub dock-ofb-refused-keeps : (κs : _) (a : _) (r : _) (s : _) → dock-ofb.Post κs a r s → (r .number ≡ 0 → ⊥)
+    → (now (s .1 .1 .1 .0) ≡ now (a .1 .1 .1 .0)) × (r .next ≡ replicate 16 0)
+dock-ofb-refused-keeps κs a r s p h = chain-keeps Ofb κs a r s (dock-ofb-is-apply κs a r s p) h
 
 -- ---- the check
 

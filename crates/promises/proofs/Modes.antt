@@ -1,17 +1,18 @@
 -- Demands 1, 2 and 3 for the modes. Assumes nothing.
-use mathlib.Core.Path.{_≡_, refl, sym, ap, subst, _∙_}
-use mathlib.Core.Bool.{Bool, true, false}
-use mathlib.Core.List.{List}
-use Prim.Native.Nat.{ℕ, _*_, _/_, _%_, _≤_, _<_}
+use mathlib.Core.Path.{_≡_, refl, sym, ap, ap₂, subst, _∙_}
+use mathlib.Core.Bool.{Bool, true, false, true≢false}
+use mathlib.Core.List.{List, _++_}
+use Prim.Native.Nat.{ℕ, _+_, _*_, _/_, _%_, _≤_, _<_}
 use native.Mathlib.Nat.{zero-lt-suc}
 use native.Mathlib.Omega.{arith}
 use borrow.Author.Tests.{eqb-true, eqb-false, ltb-true, ltb-false}
 use denote.Ref.{now}
 use lib.Dec.{eqb, ltb}
-use lib.ListN.{length, take, drop, length-append, length-drop}
+use lib.ListN.{length, take, drop, replicate, length-append, length-drop}
 use lib.Seq.{take-at, drop-at}
-use Rattle.octets.specs.Octets.{choose, over, Bytes, Octets}
+use Rattle.octets.specs.Octets.{choose, over, joined, Bytes, Octets}
 use Rattle.octets.specs.Blocks.{BlockCipher, Lawful}
+use Rattle.octets.proofs.Blocks.{append-bytes}
 use Rattle.sbox.specs.Sbox.{sBox}
 use Rattle.schedule.specs.Schedule.{scheduleOf, keyNumber, roundCount}
 use Rattle.fips197.specs.Cipher.{standard, aesOf}
@@ -19,20 +20,22 @@ use Rattle.fips197.proofs.Aes.{aes-lawful, key-lawful}
 use Rattle.tables.specs.Tables.{forwardTable, inverseTable}
 use Rattle.lookups.specs.Lookups.{oneTable, tableCipher, inverseWords}
 use Rattle.lookups.proofs.Lawful.{lent-agrees}
-use Rattle.sp800_38a.specs.Pieces.{outputOf, after, pieceCount}
-use Rattle.sp800_38a.specs.Modes.{machine, other, inverts, ivLength, anyLength, Unless, moded}
-use Rattle.sp800_38a.specs.Equations.{Equation}
+use Rattle.sp800_38a.specs.Pieces.{outputOf}
+use Rattle.sp800_38a.specs.Modes.{other, inverts, ivLength, anyLength, chains, Unless, moded, handedOn, inParts, handedAlong, WholeParts}
+use Rattle.sp800_38a.specs.Equations.{Equation, Handed}
 use Rattle.sp800_38a.specs.declared.Operation.{Operation}
 use Rattle.sp800_38a.specs.declared.Operation.the-variants.{EcbEncrypt, EcbDecrypt, CbcEncrypt, CbcDecrypt, CfbEncrypt, CfbDecrypt, Ofb}
 use Rattle.sp800_38a.proofs.Undo.{ChainOf, moded-undone}
-use Rattle.sp800_38a.proofs.Sixteen.{pieces-16, length-16, undone-16}
-use Rattle.sp800_38a.proofs.Equations.{equation}
+use Rattle.sp800_38a.proofs.Sixteen.{by-sixteen, pieces-16, length-16, undone-16, handed-16, chain-block}
+use Rattle.sp800_38a.proofs.Equations.{equation, handed-on}
+use Rattle.sp800_38a.proofs.HandedOn as cuts
 use Rattle.pieces.specs.Runs.{reach, runOver}
 use Rattle.pieces.proofs.Agree.{iv-is-chain, through-forward, through-backward, through-mode}
-use Rattle.modes.specs.Calls.{modeNumber, leftOver, judged, modeAnswer, modeOutput}
+use Rattle.modes.specs.Calls.{modeNumber, leftOver, judged, modeAnswer, modeOutput, modeNext}
+use Rattle.modes.specs.declared.Applied.{Applied}
 use Rattle.modes.specs.declared.ModeAnswer.{ModeAnswer}
 use Rattle.modes.specs.declared.ModeAnswer.the-variants.{Done, BadKey, BadIv, NotPieces, OutputShort}
-use Rattle.modes.proofs.Answers.{kept, left-none, none-left}
+use Rattle.modes.proofs.Answers.{kept, zeros, left-none, none-left}
 use Rattle.promises.proofs.Keys.{KeyTaken}
 use Rattle.modes.proofs.apply.Reads as apply
 use Rattle.steps.proofs.step.Reads as step
@@ -71,9 +74,16 @@ apply-determined κs a r r′ s s′ p q =
     let e : r ≡ r′ = p .0 ∙ sym (q .0) in
     (e, p .1 ∙ rw e (sym (q .1)))
 
-pub apply-refused-keeps : (κs : _) (a : _) (r : _) (s : _) → apply.Post κs a r s → (modeNumber r ≡ 0 → ⊥)
+pub apply-refused-keeps : (κs : _) (a : _) (r : _) (s : _) → apply.Post κs a r s → (modeNumber (r .answer) ≡ 0 → ⊥)
     → now (s .1 .1 .1 .1 .0) ≡ now (a .1 .1 .1 .1 .0)
-apply-refused-keeps κs a r s p h = p .1 ∙ kept r (a .0) (now (a .1 .0)) (now (a .1 .1 .0)) (now (a .1 .1 .1 .0)) (now (a .1 .1 .1 .1 .0)) h
+apply-refused-keeps κs a r s p h = p .1 ∙ kept (r .answer) (a .0) (now (a .1 .0)) (now (a .1 .1 .0)) (now (a .1 .1 .1 .0)) (now (a .1 .1 .1 .1 .0)) h
+
+-- what stands beside an answer is the chaining value that goes with it; a refused call has zeros there
+pub apply-next : (κs : _) (a : _) (r : _) (s : _) → apply.Post κs a r s → r .next ≡ modeNext (r .answer) (a .0) (now (a .1 .0)) (now (a .1 .1 .0)) (now (a .1 .1 .1 .0))
+apply-next κs a r s p = rw (p .0)
+
+pub apply-refused-zeros : (κs : _) (a : _) (r : _) (s : _) → apply.Post κs a r s → (modeNumber (r .answer) ≡ 0 → ⊥) → r .next ≡ replicate 16 0
+apply-refused-zeros κs a r s p h = apply-next κs a r s p ∙ zeros (r .answer) (a .0) (now (a .1 .0)) (now (a .1 .1 .0)) (now (a .1 .1 .1 .0)) h
 
 pub step-asks-nothing : (κs : _) (a : _) → step.Asked κs a
 step-asks-nothing κs a = tt
@@ -128,22 +138,22 @@ fit-done o key iv inp out f NotPieces t = absurd (t .2 (f .pieces))
 fit-done o key iv inp out f OutputShort t = let h = t .3 in let k = f .room in absurd (omega arith)
 
 pub apply-as-told : (κs : _) (a : _) (r : _) (s : _) → apply.Post κs a r s
-    → Says (a .0) (now (a .1 .0)) (now (a .1 .1 .0)) (now (a .1 .1 .1 .0)) (now (a .1 .1 .1 .1 .0)) r
+    → Says (a .0) (now (a .1 .0)) (now (a .1 .1 .0)) (now (a .1 .1 .1 .0)) (now (a .1 .1 .1 .1 .0)) (r .answer)
 apply-as-told κs a r s p =
     let o = a .0 in
     let key = now (a .1 .0) in
     let iv = now (a .1 .1 .0) in
     let inp = now (a .1 .1 .1 .0) in
     let out = now (a .1 .1 .1 .1 .0) in
-    subst (Says o key iv inp out) (sym (p .0)) (tell o key iv inp out)
+    subst (Says o key iv inp out) (ap (λ (x : Applied). x .answer) (sym (p .0))) (tell o key iv inp out)
 
 pub apply-done : (κs : _) (a : _) (r : _) (s : _) → apply.Post κs a r s
-    → Fit (a .0) (now (a .1 .0)) (now (a .1 .1 .0)) (now (a .1 .1 .1 .0)) (now (a .1 .1 .1 .1 .0)) → modeNumber r ≡ 0
-apply-done κs a r s p f = ap modeNumber (fit-done _ _ _ _ _ f r (apply-as-told κs a r s p))
+    → Fit (a .0) (now (a .1 .0)) (now (a .1 .1 .0)) (now (a .1 .1 .1 .0)) (now (a .1 .1 .1 .1 .0)) → modeNumber (r .answer) ≡ 0
+apply-done κs a r s p f = ap modeNumber (fit-done _ _ _ _ _ f (r .answer) (apply-as-told κs a r s p))
 
 -- 3 comes from ECB, CBC and CFB alone
-pub not-pieces-not-ofb : (κs : _) (a : _) (r : _) (s : _) → apply.Post κs a r s → modeNumber r ≡ 3 → anyLength (a .0) ≡ false
-not-pieces-not-ofb κs a r s p e = whole-asked (a .0) (told r e (apply-as-told κs a r s p))
+pub not-pieces-not-ofb : (κs : _) (a : _) (r : _) (s : _) → apply.Post κs a r s → modeNumber (r .answer) ≡ 3 → anyLength (a .0) ≡ false
+not-pieces-not-ofb κs a r s p e = whole-asked (a .0) (told (r .answer) e (apply-as-told κs a r s p))
   where
     told : (r : ModeAnswer) → modeNumber r ≡ 3 → Says (a .0) (now (a .1 .0)) (now (a .1 .1 .0)) (now (a .1 .1 .1 .0)) (now (a .1 .1 .1 .1 .0)) r
         → Takes (a .0) (length (now (a .1 .1 .1 .0))) → ⊥
@@ -178,6 +188,9 @@ module _ (o : Operation) (key iv inp out : List ℕ) (bi : Bytes iv) (bs : Bytes
   wrote : (r : ModeAnswer) → Says o key iv inp out r → modeOutput r o key iv inp out ≡ over (moded 16 (aesOf key) o iv inp) out
   wrote r t = rw (fit-done o key iv inp out f r t)
 
+  hands : chains o ≡ true → (r : ModeAnswer) → Says o key iv inp out r → modeNext r o key iv inp ≡ handedOn 16 (aesOf key) o iv inp
+  hands k r t = rw (fit-done o key iv inp out f r t, k)
+
   rest-kept : (x : List ℕ) → x ≡ over (moded 16 (aesOf key) o iv inp) out → (drop (length inp) x ≡ drop (length inp) out) × (length x ≡ length out)
   rest-kept x e =
       let m = moded 16 (aesOf key) o iv inp in
@@ -198,7 +211,7 @@ rest-of o key iv inp out bi bs OutputShort t x e = (ap (drop (length inp)) e, ap
 pub apply-keeps-the-rest : (κs : _) (a : _) (r : _) (s : _) → apply.Post κs a r s → Bytes (now (a .1 .1 .0)) → Bytes (now (a .1 .1 .1 .0))
     → (drop (length (now (a .1 .1 .1 .0))) (now (s .1 .1 .1 .1 .0)) ≡ drop (length (now (a .1 .1 .1 .0))) (now (a .1 .1 .1 .1 .0)))
     × (length (now (s .1 .1 .1 .1 .0)) ≡ length (now (a .1 .1 .1 .1 .0)))
-apply-keeps-the-rest κs a r s p bi bs = rest-of (a .0) (now (a .1 .0)) (now (a .1 .1 .0)) (now (a .1 .1 .1 .0)) (now (a .1 .1 .1 .1 .0)) bi bs r (apply-as-told κs a r s p) _ (p .1)
+apply-keeps-the-rest κs a r s p bi bs = rest-of (a .0) (now (a .1 .0)) (now (a .1 .1 .0)) (now (a .1 .1 .1 .0)) (now (a .1 .1 .1 .1 .0)) bi bs (r .answer) (apply-as-told κs a r s p) _ (p .1)
 
 -- ---- demand 2: every piece of the output's first bytes, as many as the input has, is as the standard's equation says,
 -- for each operation; in OFB a short last piece too
@@ -215,7 +228,7 @@ apply-is-sp-800-38a κs a r s p f bi bs i h =
     let out = now (a .1 .1 .1 .1 .0) in
     let m = moded 16 (aesOf key) o iv inp in
     let e : take (length inp) (now (s .1 .1 .1 .1 .0)) ≡ m =
-    ap (take (length inp)) (p .1 ∙ wrote o key iv inp out bi bs f r (apply-as-told κs a r s p))
+    ap (take (length inp)) (p .1 ∙ wrote o key iv inp out bi bs f (r .answer) (apply-as-told κs a r s p))
     ∙ take-at m (drop (length m) out) (length inp) (long o key iv inp out bi bs f) in
     rw e
     (equation 16 (aesOf key) (lawful o key iv inp out bi bs f) (length inp / 16) (zero-lt-suc 15) iv inp bs o (chain o key iv inp out bi bs f)
@@ -238,7 +251,7 @@ lent-through o w nr table words l iv inp out = by (inverts o) refl
 pub run-is-the-mode : (κs : _) (a : _) (r : _) (s : _) → run.Post κs a r s → (w : List ℕ) → roundCount (a .1 .1 .0) ≡ true
     → Lends (a .1 .1 .1 .0) w (a .1 .1 .0) (now (a .0)) (now (a .1 .0)) → ChainOf 16 (a .1 .1 .1 .0) (a .1 .1 .1 .1 .0)
     → Bytes (now (a .1 .1 .1 .1 .1 .0)) → Takes (a .1 .1 .1 .0) (length (now (a .1 .1 .1 .1 .1 .0))) → length (now (a .1 .1 .1 .1 .1 .0)) ≤ length (now (a .1 .1 .1 .1 .1 .1 .0))
-    → (r ≡ after 16 (machine (standard w (a .1 .1 .0)) (a .1 .1 .1 .0)) (a .1 .1 .1 .1 .0) (pieceCount 16 (now (a .1 .1 .1 .1 .1 .0))) (now (a .1 .1 .1 .1 .1 .0)))
+    → (r ≡ handedOn 16 (standard w (a .1 .1 .0)) (a .1 .1 .1 .0) (a .1 .1 .1 .1 .0) (now (a .1 .1 .1 .1 .1 .0)))
     × (now (s .1 .1 .1 .1 .1 .1 .0) ≡ over (moded 16 (standard w (a .1 .1 .0)) (a .1 .1 .1 .0) (a .1 .1 .1 .1 .0) (now (a .1 .1 .1 .1 .1 .0))) (now (a .1 .1 .1 .1 .1 .1 .0)))
 run-is-the-mode κs a r s p w known l g b h room =
     let nr = a .1 .1 .0 in
@@ -290,10 +303,10 @@ apply-undoes-apply κs a r s p κs′ a′ r′ s′ q f eo ek ei es room bi bs 
     let m = moded 16 (aesOf key) o iv inp in
     let n = long o key iv inp out bi bs f in
     let made-is : now (a′ .1 .1 .1 .0) ≡ m =
-    es ∙ ap (take (length inp)) (p .1 ∙ wrote o key iv inp out bi bs f r (apply-as-told κs a r s p)) ∙ take-at m (drop (length m) out) (length inp) n in
+    es ∙ ap (take (length inp)) (p .1 ∙ wrote o key iv inp out bi bs f (r .answer) (apply-as-told κs a r s p)) ∙ take-at m (drop (length m) out) (length inp) n in
     let f′ : Fit (a′ .0) (now (a′ .1 .0)) (now (a′ .1 .1 .0)) (now (a′ .1 .1 .1 .0)) out′ =
     rw (eo, ek, ei, made-is) (record { key-taken = f .key-taken; iv-right = f .iv-right ∙ other-takes o .0; pieces = rw (n, other-takes o .1) (f .pieces); room = omega (arith, n) }) in
-    let d : r′ ≡ Done = fit-done _ _ _ _ _ f′ r′ (apply-as-told κs′ a′ r′ s′ q) in
+    let d : r′ .answer ≡ Done = fit-done _ _ _ _ _ f′ (r′ .answer) (apply-as-told κs′ a′ r′ s′ q) in
     let over-is : now (s′ .1 .1 .1 .1 .0) ≡ over inp out′ = q .1 ∙ rw (d, eo, ek, ei, made-is, back o key iv inp out bi bs f) in
     ap (take (length inp)) over-is ∙ take-at inp (drop (length inp) out′) (length inp) refl
 
@@ -307,3 +320,122 @@ ofb-twice-returns-the-input κs a r s p κs′ a′ r′ s′ q eo eo′ key iv 
     let f : Fit (a .0) (now (a .1 .0)) (now (a .1 .1 .0)) (now (a .1 .1 .1 .0)) (now (a .1 .1 .1 .1 .0)) =
     rw eo (record { key-taken = key; iv-right = iv; pieces = tt; room = room }) in
     apply-undoes-apply κs a r s p κs′ a′ r′ s′ q f (eo′ ∙ ap other (sym eo)) ek ei es room′ bi bs
+
+-- ---- document 02, E4: what is handed on, and inputs in parts
+
+-- what a call that fits made, and what it handed on; ECB has nothing to hand on
+pub apply-gives : (κs : _) (a : _) (r : _) (s : _) → apply.Post κs a r s
+    → Fit (a .0) (now (a .1 .0)) (now (a .1 .1 .0)) (now (a .1 .1 .1 .0)) (now (a .1 .1 .1 .1 .0))
+    → Bytes (now (a .1 .1 .0)) → Bytes (now (a .1 .1 .1 .0)) → chains (a .0) ≡ true
+    → (take (length (now (a .1 .1 .1 .0))) (now (s .1 .1 .1 .1 .0)) ≡ moded 16 (aesOf (now (a .1 .0))) (a .0) (now (a .1 .1 .0)) (now (a .1 .1 .1 .0)))
+    × (r .next ≡ handedOn 16 (aesOf (now (a .1 .0))) (a .0) (now (a .1 .1 .0)) (now (a .1 .1 .1 .0)))
+apply-gives κs a r s p f bi bs k =
+    let o = a .0 in
+    let key = now (a .1 .0) in
+    let iv = now (a .1 .1 .0) in
+    let inp = now (a .1 .1 .1 .0) in
+    let out = now (a .1 .1 .1 .1 .0) in
+    let m = moded 16 (aesOf key) o iv inp in
+    let t = apply-as-told κs a r s p in (
+      ap (take (length inp)) (p .1 ∙ wrote o key iv inp out bi bs f (r .answer) t) ∙ take-at m (drop (length m) out) (length inp) (long o key iv inp out bi bs f),
+      apply-next κs a r s p ∙ hands o key iv inp out bi bs f k (r .answer) t,
+    )
+
+-- it is the last block of the ciphertext, in OFB the last output block, all 16 bytes, and the IV where the input is empty
+pub apply-hands-on : (κs : _) (a : _) (r : _) (s : _) → apply.Post κs a r s
+    → Fit (a .0) (now (a .1 .0)) (now (a .1 .1 .0)) (now (a .1 .1 .1 .0)) (now (a .1 .1 .1 .1 .0))
+    → Bytes (now (a .1 .1 .0)) → Bytes (now (a .1 .1 .1 .0)) → chains (a .0) ≡ true
+    → Handed 16 (aesOf (now (a .1 .0))) (a .0) (now (a .1 .1 .0)) (now (a .1 .1 .1 .0)) (take (length (now (a .1 .1 .1 .0))) (now (s .1 .1 .1 .1 .0))) (r .next)
+apply-hands-on κs a r s p f bi bs k =
+    let o = a .0 in
+    let key = now (a .1 .0) in
+    let iv = now (a .1 .1 .0) in
+    let inp = now (a .1 .1 .1 .0) in
+    let out = now (a .1 .1 .1 .1 .0) in
+    let e = apply-gives κs a r s p f bi bs k in
+    rw (e .0, e .1)
+    (handed-on 16 (aesOf key) (lawful o key iv inp out bi bs f) (length inp / 16) (zero-lt-suc 15) iv inp bs o (chain o key iv inp out bi bs f)
+    (pieces-16 (anyLength o) (length inp) (f .pieces)))
+
+no-chain : (a : ModeAnswer) (o : Operation) (key iv inp : List ℕ) → chains o ≡ false → modeNext a o key iv inp ≡ replicate 16 0
+no-chain Done o key iv inp e = rw e
+no-chain BadKey o key iv inp e = refl
+no-chain BadIv o key iv inp e = refl
+no-chain NotPieces o key iv inp e = refl
+no-chain OutputShort o key iv inp e = refl
+
+pub ecb-hands-on-zeros : (κs : _) (a : _) (r : _) (s : _) → apply.Post κs a r s → chains (a .0) ≡ false → r .next ≡ replicate 16 0
+ecb-hands-on-zeros κs a r s p e = apply-next κs a r s p ∙ no-chain (r .answer) (a .0) (now (a .1 .0)) (now (a .1 .1 .0)) (now (a .1 .1 .1 .0)) e
+
+-- for the definitions, over every block cipher of any width: two inputs joined, of which the first is n whole pieces, are the first and
+-- then, with the value handed on, the second; and so is the value at the end
+pub joined-is-one-after-the-other : (z : ℕ) (c : BlockCipher) (o : Operation) → 0 < z → (n : ℕ) (iv a b : List ℕ) → length a ≡ n * z
+    → (moded z c o iv (a ++ b) ≡ moded z c o iv a ++ moded z c o (handedOn z c o iv a) b)
+    × (handedOn z c o iv (a ++ b) ≡ handedOn z c o (handedOn z c o iv a) b)
+joined-is-one-after-the-other z c o some n iv a b e = (cuts.moded-joined z c o some n iv a b e, cuts.handed-joined z c o some n iv a b e)
+
+-- so for any number of cuts, each behind whole pieces
+pub any-number-of-cuts : (z : ℕ) (c : BlockCipher) (o : Operation) → 0 < z → (parts : List (List ℕ)) (iv last : List ℕ) → WholeParts z parts
+    → (moded z c o iv (joined parts ++ last) ≡ inParts z c o iv parts ++ moded z c o (handedAlong z c o iv parts) last)
+    × (handedOn z c o iv (joined parts ++ last) ≡ handedOn z c o (handedAlong z c o iv parts) last)
+any-number-of-cuts z c o some parts iv last w = cuts.cut-anywhere z c o some parts iv last w
+
+-- what is left behind whole pieces is taken where all of it is, and whole pieces always are
+rest-taken : (k : Bool) (n m : ℕ) → n % 16 ≡ 0 → Unless k ((n + m) % 16 ≡ 0) → Unless k (m % 16 ≡ 0)
+rest-taken true n m h t = tt
+rest-taken false n m h t = omega arith
+
+whole-taken : (k : Bool) (n : ℕ) → n % 16 ≡ 0 → Unless k (n % 16 ≡ 0)
+whole-taken true n h = tt
+whole-taken false n h = h
+
+chained-iv : (o : Operation) → chains o ≡ true → ivLength 16 o ≡ 16
+chained-iv EcbEncrypt e = absurd (true≢false (sym e))
+chained-iv EcbDecrypt e = absurd (true≢false (sym e))
+chained-iv CbcEncrypt e = refl
+chained-iv CbcDecrypt e = refl
+chained-iv CfbEncrypt e = refl
+chained-iv CfbDecrypt e = refl
+chained-iv Ofb e = refl
+
+-- for three calls under one key: one over an input of whole pieces, one over another input with the value that the first handed on, and
+-- one that fits over both joined; the third wrote what the first two wrote, and handed on what the second did
+pub two-calls-are-one : (κs : _) (a : _) (r : _) (s : _) → apply.Post κs a r s → (κs′ : _) (a′ : _) (r′ : _) (s′ : _) → apply.Post κs′ a′ r′ s′
+    → (κs″ : _) (a″ : _) (r″ : _) (s″ : _) → apply.Post κs″ a″ r″ s″
+    → Fit (a″ .0) (now (a″ .1 .0)) (now (a″ .1 .1 .0)) (now (a″ .1 .1 .1 .0)) (now (a″ .1 .1 .1 .1 .0)) → chains (a″ .0) ≡ true
+    → a .0 ≡ a″ .0 → now (a .1 .0) ≡ now (a″ .1 .0) → now (a .1 .1 .0) ≡ now (a″ .1 .1 .0)
+    → a′ .0 ≡ a″ .0 → now (a′ .1 .0) ≡ now (a″ .1 .0) → now (a′ .1 .1 .0) ≡ r .next
+    → now (a″ .1 .1 .1 .0) ≡ now (a .1 .1 .1 .0) ++ now (a′ .1 .1 .1 .0) → length (now (a .1 .1 .1 .0)) % 16 ≡ 0
+    → length (now (a .1 .1 .1 .0)) ≤ length (now (a .1 .1 .1 .1 .0)) → length (now (a′ .1 .1 .1 .0)) ≤ length (now (a′ .1 .1 .1 .1 .0))
+    → Bytes (now (a″ .1 .1 .0)) → Bytes (now (a .1 .1 .1 .0)) → Bytes (now (a′ .1 .1 .1 .0))
+    → (take (length (now (a″ .1 .1 .1 .0))) (now (s″ .1 .1 .1 .1 .0))
+    ≡ take (length (now (a .1 .1 .1 .0))) (now (s .1 .1 .1 .1 .0)) ++ take (length (now (a′ .1 .1 .1 .0))) (now (s′ .1 .1 .1 .1 .0)))
+    × (r″ .next ≡ r′ .next)
+two-calls-are-one κs a r s p κs′ a′ r′ s′ p′ κs″ a″ r″ s″ p″ f k eo ek ei eo′ ek′ ei′ es whole room room′ bi ba bb =
+    let o = a″ .0 in
+    let key = now (a″ .1 .0) in
+    let iv = now (a″ .1 .1 .0) in
+    let x = now (a .1 .1 .1 .0) in
+    let y = now (a′ .1 .1 .1 .0) in
+    let c = aesOf key in
+    let f1 : Fit (a .0) (now (a .1 .0)) (now (a .1 .1 .0)) x (now (a .1 .1 .1 .1 .0)) =
+    rw (eo, ek, ei) (record { key-taken = f .key-taken; iv-right = f .iv-right; pieces = whole-taken (anyLength o) (length x) whole; room = room }) in
+    let g1 = apply-gives κs a r s p f1 (rw ei bi) ba (rw eo k) in
+    let w1 : take (length x) (now (s .1 .1 .1 .1 .0)) ≡ moded 16 c o iv x = g1 .0 ∙ rw (eo, ek, ei) in
+    let n1 : r .next ≡ handedOn 16 c o iv x = g1 .1 ∙ rw (eo, ek, ei) in
+    let st : Octets 16 (r .next) =
+    rw n1
+    (chain-block o (handedOn 16 c o iv x) k
+    (handed-16 c (key-lawful key (f .key-taken)) o iv x (iv-is-chain o iv (f .iv-right) bi) ba (whole-taken (anyLength o) (length x) whole))) in
+    let all : Takes o (length x + length y) = subst (λ (i : ℕ). Takes o i) (ap length es ∙ length-append x y) (f .pieces) in
+    let f2 : Fit (a′ .0) (now (a′ .1 .0)) (now (a′ .1 .1 .0)) y (now (a′ .1 .1 .1 .1 .0)) =
+    rw (eo′, ek′, ei′)
+    (record { key-taken = f .key-taken; iv-right = st .size ∙ sym (chained-iv o k); pieces = rest-taken (anyLength o) (length x) (length y) whole all; room = room′ }) in
+    let g2 = apply-gives κs′ a′ r′ s′ p′ f2 (rw ei′ (st .bytes)) bb (rw eo′ k) in
+    let w2 : take (length y) (now (s′ .1 .1 .1 .1 .0)) ≡ moded 16 c o (r .next) y = g2 .0 ∙ rw (eo′, ek′, ei′) in
+    let n2 : r′ .next ≡ handedOn 16 c o (r .next) y = g2 .1 ∙ rw (eo′, ek′, ei′) in
+    let g3 = apply-gives κs″ a″ r″ s″ p″ f bi (rw es (append-bytes x y ba bb)) k in
+    let e = joined-is-one-after-the-other 16 c o (zero-lt-suc 15) (length x / 16) iv x y (by-sixteen (length x) whole) in (
+      g3 .0 ∙ ap (moded 16 c o iv) es ∙ e .0 ∙ ap (λ (v : List ℕ). moded 16 c o iv x ++ moded 16 c o v y) (sym n1) ∙ sym (ap₂ _++_ w1 w2),
+      g3 .1 ∙ ap (handedOn 16 c o iv) es ∙ e .1 ∙ ap (λ (v : List ℕ). handedOn 16 c o v y) (sym n1) ∙ sym n2,
+    )

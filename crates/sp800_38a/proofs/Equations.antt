@@ -1,4 +1,4 @@
--- Piece i of what an operation gives is as the standard's equation says. Assumes nothing.
+-- Piece i of what an operation gives is as the standard's equation says, and what it hands on as the standard chains. Assumes nothing.
 use mathlib.Core.Path.{_≡_, refl, sym, ap, _∙_}
 use mathlib.Core.List.{List}
 use Prim.Native.Nat.{ℕ, zero, suc, _*_, _<_}
@@ -8,11 +8,11 @@ use lib.ListN.{length, take, drop, length-take, length-drop}
 use Rattle.octets.specs.Octets.{Bytes}
 use Rattle.octets.specs.Blocks.{_⊕_, BlockCipher, Lawful}
 use Rattle.sp800_38a.specs.Pieces.{Machine, outputOf, after, piece, pieceCount}
-use Rattle.sp800_38a.specs.Modes.{machine, anyLength, Unless, moded}
-use Rattle.sp800_38a.specs.Equations.{previous, outputBlock, Equation}
+use Rattle.sp800_38a.specs.Modes.{machine, anyLength, Unless, moded, handedOn}
+use Rattle.sp800_38a.specs.Equations.{previous, outputBlock, Equation, Handed}
 use Rattle.sp800_38a.specs.declared.Operation.{Operation}
 use Rattle.sp800_38a.specs.declared.Operation.the-variants.{EcbEncrypt, EcbDecrypt, CbcEncrypt, CbcDecrypt, CfbEncrypt, CfbDecrypt, Ofb}
-use Rattle.sp800_38a.proofs.Pieces.{piece-suc, piece-zero, after-more, Each, Keeps, made-length, below-count}
+use Rattle.sp800_38a.proofs.Pieces.{piece-suc, piece-zero, after-more, Each, Keeps, made-length, below-count, last-begins}
 use Rattle.sp800_38a.proofs.Undo.{ChainOf, PieceOf, first-of, keeps, whole}
 
 -- piece i comes out of the state after the pieces before it
@@ -40,6 +40,19 @@ module _ (z : ℕ) (m : Machine) (G P : List ℕ → Type 0) (k : Keeps m G P) w
       ∙ ap (m .out (after z m st' i (drop z s))) (sym (piece-suc z m s i))
 
 module _ (z : ℕ) (c : BlockCipher) (l : Lawful z c) (n : ℕ) (some : 0 < z) (iv inp : List ℕ) (b : Bytes inp) where
+  -- the piece before piece i is there
+  abbrev Begun : ℕ → Type 0
+  Begun zero = Unit {0}
+  Begun (suc i) = i * z < length inp
+
+  begun : (i : ℕ) → i * z < length inp → Begun i
+  begun zero k = tt
+  begun (suc i) k = omega (arith, suc-mul i z)
+
+  begun-all : (k : ℕ) → pieceCount z inp ≡ k → Begun k
+  begun-all zero e = tt
+  begun-all (suc i) e = last-begins z inp some i e
+
   module _ (o : Operation) (g : ChainOf z o iv) (e : Unless (anyLength o) (length inp ≡ n * z)) where
     -- what the operation makes
     result : List ℕ
@@ -53,10 +66,10 @@ module _ (z : ℕ) (c : BlockCipher) (l : Lawful z c) (n : ℕ) (some : 0 < z) (
 
     -- the chaining value before piece i, where it is what came out, or what went in
     chained-out : ((st p : List ℕ) → machine c o .next st p ≡ machine c o .out st p)
-        → (i : ℕ) → i * z < length inp → after z (machine c o) iv i inp ≡ previous z iv result i
+        → (i : ℕ) → Begun i → after z (machine c o) iv i inp ≡ previous z iv result i
     unfolding after
     chained-out q zero k = refl
-    chained-out q (suc i) k = after-more z (machine c o) i iv inp ∙ q _ _ ∙ sym (came-out i (omega (arith, suc-mul i z)))
+    chained-out q (suc i) k = after-more z (machine c o) i iv inp ∙ q _ _ ∙ sym (came-out i k)
 
     chained-in : ((st p : List ℕ) → machine c o .next st p ≡ p) → (i : ℕ) → after z (machine c o) iv i inp ≡ previous z iv inp i
     unfolding after
@@ -72,8 +85,18 @@ module _ (z : ℕ) (c : BlockCipher) (l : Lawful z c) (n : ℕ) (some : 0 < z) (
   unfolding result outputBlock
   equation EcbEncrypt g e i k = came-out EcbEncrypt g e i k
   equation EcbDecrypt g e i k = came-out EcbDecrypt g e i k
-  equation CbcEncrypt g e i k = came-out CbcEncrypt g e i k ∙ ap (λ (x : List ℕ). c .enc (piece z inp i ⊕ x)) (chained-out CbcEncrypt g e (λ st p. refl) i k)
+  equation CbcEncrypt g e i k = came-out CbcEncrypt g e i k ∙ ap (λ (x : List ℕ). c .enc (piece z inp i ⊕ x)) (chained-out CbcEncrypt g e (λ st p. refl) i (begun i k))
   equation CbcDecrypt g e i k = came-out CbcDecrypt g e i k ∙ ap (λ (x : List ℕ). c .dec (piece z inp i) ⊕ x) (chained-in CbcDecrypt g e (λ st p. refl) i)
-  equation CfbEncrypt g e i k = came-out CfbEncrypt g e i k ∙ ap (λ (x : List ℕ). piece z inp i ⊕ c .enc x) (chained-out CfbEncrypt g e (λ st p. refl) i k)
+  equation CfbEncrypt g e i k = came-out CfbEncrypt g e i k ∙ ap (λ (x : List ℕ). piece z inp i ⊕ c .enc x) (chained-out CfbEncrypt g e (λ st p. refl) i (begun i k))
   equation CfbDecrypt g e i k = came-out CfbDecrypt g e i k ∙ ap (λ (x : List ℕ). piece z inp i ⊕ c .enc x) (chained-in CfbDecrypt g e (λ st p. refl) i)
   equation Ofb g e i k = came-out Ofb g e i k ∙ ap (λ (x : List ℕ). piece z inp i ⊕ c .enc x) (enciphered Ofb g e (λ st p. refl) i)
+
+  pub handed-on : (o : Operation) → ChainOf z o iv → Unless (anyLength o) (length inp ≡ n * z) → Handed z c o iv inp (moded z c o iv inp) (handedOn z c o iv inp)
+  unfolding result
+  handed-on EcbEncrypt g e = tt
+  handed-on EcbDecrypt g e = tt
+  handed-on CbcEncrypt g e = chained-out CbcEncrypt g e (λ st p. refl) (pieceCount z inp) (begun-all (pieceCount z inp) refl)
+  handed-on CbcDecrypt g e = chained-in CbcDecrypt g e (λ st p. refl) (pieceCount z inp)
+  handed-on CfbEncrypt g e = chained-out CfbEncrypt g e (λ st p. refl) (pieceCount z inp) (begun-all (pieceCount z inp) refl)
+  handed-on CfbDecrypt g e = chained-in CfbDecrypt g e (λ st p. refl) (pieceCount z inp)
+  handed-on Ofb g e = enciphered Ofb g e (λ st p. refl) (pieceCount z inp)

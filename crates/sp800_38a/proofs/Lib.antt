@@ -1,5 +1,6 @@
 pub mod Pieces
 pub mod Joining
+pub mod HandedOn
 pub mod Undo
 pub mod Sixteen
 pub mod Same

@@ -118,5 +118,8 @@ module _ (z : ℕ) (s : List ℕ) (some : 0 < z) where
   pub count-covers : length s ≤ pieceCount z s * z
   count-covers = let r = mod-lt (length s + (z - 1)) some in omega (arith, count-parts)
 
+  pub last-begins : (i : ℕ) → pieceCount z s ≡ suc i → i * z < length s
+  last-begins i e = let w : pieceCount z s * z ≡ i * z + z = ap (_* z) e ∙ suc-mul i z in omega (arith, count-parts)
+
   pub below-count : (i : ℕ) → i * z < length s → i < pieceCount z s
   below-count i h = lt-of-mul-lt-mul-right z (omega (arith, count-covers))

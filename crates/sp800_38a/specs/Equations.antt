@@ -1,9 +1,9 @@
--- SP 800-38A's equations about piece i of what an operation gives, section 6. Assumes nothing: these are definitions.
+-- SP 800-38A's equations about piece i of what an operation gives, section 6, and what it hands on. Assumes nothing: these are definitions.
 use Prim.Native.Nat.{ℕ, zero, suc}
 use mathlib.Core.Path.{_≡_}
 use mathlib.Core.List.{List}
 use Rattle.octets.specs.Blocks.{_⊕_, BlockCipher}
-use Rattle.sp800_38a.specs.Pieces.{piece}
+use Rattle.sp800_38a.specs.Pieces.{piece, pieceCount}
 use Rattle.sp800_38a.specs.declared.Operation.{Operation}
 use Rattle.sp800_38a.specs.declared.Operation.the-variants.{EcbEncrypt, EcbDecrypt, CbcEncrypt, CbcDecrypt, CfbEncrypt, CfbDecrypt, Ofb}
 
@@ -27,3 +27,13 @@ Equation z e CbcDecrypt iv c p i = piece z p i ≡ e .dec (piece z c i) ⊕ prev
 Equation z e CfbEncrypt iv p c i = piece z c i ≡ piece z p i ⊕ e .enc (previous z iv c i)
 Equation z e CfbDecrypt iv c p i = piece z p i ≡ piece z c i ⊕ e .enc (previous z iv c i)
 Equation z e Ofb iv p c i = piece z c i ≡ piece z p i ⊕ outputBlock e iv (suc i)
+
+-- the value handed on: the last block of the ciphertext, in OFB the last output block, and the IV where there is no piece
+abbrev pub Handed : ℕ → BlockCipher → Operation → (iv inp out value : List ℕ) → Type 0
+Handed z e EcbEncrypt iv p c v = Unit {0}
+Handed z e EcbDecrypt iv c p v = Unit {0}
+Handed z e CbcEncrypt iv p c v = v ≡ previous z iv c (pieceCount z p)
+Handed z e CbcDecrypt iv c p v = v ≡ previous z iv c (pieceCount z c)
+Handed z e CfbEncrypt iv p c v = v ≡ previous z iv c (pieceCount z p)
+Handed z e CfbDecrypt iv c p v = v ≡ previous z iv c (pieceCount z c)
+Handed z e Ofb iv p c v = v ≡ outputBlock e iv (pieceCount z p)

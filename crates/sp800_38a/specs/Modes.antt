@@ -1,9 +1,11 @@
 -- The modes of SP 800-38A, section 6, over any block cipher of z bytes. Assumes nothing: these are definitions.
-use Prim.Native.Nat.{ℕ}
-use mathlib.Core.List.{List}
+use Prim.Native.Nat.{ℕ, _*_, _/_}
+use mathlib.Core.Path.{_≡_}
+use mathlib.Core.List.{List, [], _∷_, _++_}
 use mathlib.Core.Bool.{Bool, true, false}
+use lib.ListN.{length}
 use Rattle.octets.specs.Blocks.{_⊕_, BlockCipher}
-use Rattle.sp800_38a.specs.Pieces.{Machine, outputOf, pieceCount}
+use Rattle.sp800_38a.specs.Pieces.{Machine, outputOf, after, pieceCount}
 use Rattle.sp800_38a.specs.declared.Operation.{Operation}
 use Rattle.sp800_38a.specs.declared.Operation.the-variants.{EcbEncrypt, EcbDecrypt, CbcEncrypt, CbcDecrypt, CfbEncrypt, CfbDecrypt, Ofb}
 
@@ -57,6 +59,16 @@ anyLength CfbEncrypt = false
 anyLength CfbDecrypt = false
 anyLength Ofb = true
 
+-- whether an operation chains its pieces, and so has a value to hand on: ECB has none
+abbrev pub chains : Operation → Bool
+chains EcbEncrypt = false
+chains EcbDecrypt = false
+chains CbcEncrypt = true
+chains CbcDecrypt = true
+chains CfbEncrypt = true
+chains CfbDecrypt = true
+chains Ofb = true
+
 -- what is asked of an input unless any length goes
 abbrev pub Unless : Bool → Type 0 → Type 0
 Unless true P = Unit {0}
@@ -65,3 +77,21 @@ Unless false P = P
 -- an operation over a list of bytes; of a short last piece as many bytes come out as it has
 abbrev pub moded : ℕ → BlockCipher → Operation → List ℕ → List ℕ → List ℕ
 moded z c o iv s = outputOf z (machine c o) iv (pieceCount z s) s
+
+-- the chaining value handed on: as an IV it lets the next bytes go on where these ended
+abbrev pub handedOn : ℕ → BlockCipher → Operation → List ℕ → List ℕ → List ℕ
+handedOn z c o iv s = after z (machine c o) iv (pieceCount z s) s
+
+-- an operation over parts, each from the value that the one before hands on; and the value at the end
+abbrev pub inParts : ℕ → BlockCipher → Operation → List ℕ → List (List ℕ) → List ℕ
+inParts z c o iv [] = []
+inParts z c o iv (part ∷ parts) = moded z c o iv part ++ inParts z c o (handedOn z c o iv part) parts
+
+abbrev pub handedAlong : ℕ → BlockCipher → Operation → List ℕ → List (List ℕ) → List ℕ
+handedAlong z c o iv [] = iv
+handedAlong z c o iv (part ∷ parts) = handedAlong z c o (handedOn z c o iv part) parts
+
+-- every part is whole pieces
+abbrev pub WholeParts : ℕ → List (List ℕ) → Type 0
+WholeParts z [] = Unit {0}
+WholeParts z (part ∷ parts) = (length part ≡ length part / z * z) × WholeParts z parts

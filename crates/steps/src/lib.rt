@@ -47,7 +47,8 @@ pub fn step(
             Stepped { out, next: piece }
         }
         Operation::CfbEncrypt => {
-            let segment = xor(piece, encrypt_block(table, words, rounds, chain));
+            let key_stream = encrypt_block(table, words, rounds, chain);
+            let segment = xor(piece, key_stream);
             Stepped {
                 out: segment,
                 next: segment,

@@ -1,7 +1,7 @@
 use Rattle.dock.specs.Answers.{afterMode}
 use mathlib.Core.Path.{ap, _∙_}
 use Rattle.modes.specs.Calls.{modeNumber, modeOutput}
-use Rattle.modes.specs.declared.ModeAnswer.{ModeAnswer}
+use Rattle.modes.specs.declared.Applied.{Applied}
 use borrow.Author.Needs.{needs}
 use Rattle.dock.proofs.moded.Statement.{statement}
 use Rattle.dock.proofs.moded.Tie as tie
@@ -21,8 +21,8 @@ returns c =
     let m = c .before .before .before in
     let a = m .before .before .before .before .before .before .args in
     let e = m .apply .ensures in (
-      c .number .ensures ∙ ap modeNumber (e .0),
-      e .1 ∙ ap (λ (x : ModeAnswer). modeOutput x (a .operation) (a .key .now) (a .iv .now) (a .input .now) (a .output .now)) (e .0),
+      c .number .ensures ∙ ap (λ (x : Applied). modeNumber (x .answer)) (e .0),
+      e .1 ∙ ap (λ (x : Applied). modeOutput (x .answer) (a .operation) (a .key .now) (a .iv .now) (a .input .now) (a .output .now)) (e .0),
     )
 
 pub moded-spec : {M : Type 1} → statement M

@@ -1,4 +1,4 @@
-use Rattle.modes.proofs.Calls.{refused-keeps, answered, written}
+use Rattle.modes.proofs.Calls.{refused-keeps, refused-zeros, same-applied, answered, written}
 use Rattle.octets.specs.Octets.{Bytes}
 use denote.Ref.{now}
 use mathlib.Core.Path.{sym}
@@ -19,8 +19,10 @@ enum-told c = search needs
 returns : tie.Need-returns
 returns c =
     let k = c .before in
-    let a = k .before .before .before .before .before .before .before .before .args in (
-      answered (a .operation) (now (a .key)) (now (a .iv)) (now (a .input)) (now (a .output)) _ _ (k .before .before .before .new .ensures) (k .judge .ensures),
+    let a = k .before .before .before .before .before .before .before .before .args in
+    let e = answered (a .operation) (now (a .key)) (now (a .iv)) (now (a .input)) (now (a .output)) _ _ (k .before .before .before .new .ensures) (k .judge .ensures) in (
+      same-applied _ _ _ (a .operation) (now (a .key)) (now (a .iv)) (now (a .input)) e
+          (sym (refused-zeros (k .judge .result) (a .operation) (now (a .key)) (now (a .iv)) (now (a .input)) (c .match .keys2))),
       sym (refused-keeps (k .judge .result) (a .operation) (now (a .key)) (now (a .iv)) (now (a .input)) (now (a .output)) (c .match .keys2)),
     )
 
@@ -40,11 +42,12 @@ returns-2 c =
     let bi : Bytes (now (a .iv)) = λ i. omega (arith, k .before .before .before .before .before .before .shared-slice-known2 .given i) in
     let bs : Bytes (now (a .input)) = λ i. omega (arith, k .before .before .before .before .before .shared-slice-known3 .given i) in
     let pe = k .before .before .before .new .ensures in
-    let pr = k .judge .ensures in (
-      answered (a .operation) (now (a .key)) (now (a .iv)) (now (a .input)) (now (a .output)) _ _ pe pr,
-      written (a .operation) (now (a .key)) (now (a .iv)) (now (a .input)) (now (a .output)) _ _ pe pr _ _ _
-          (c .before .before .before .before .load .ensures) bi bs (c .before .before .before .before .before .before .enum-told .given .1) (c .before .before .under-schedule .ensures),
-    )
+    let pr = k .judge .ensures in
+    let e = answered (a .operation) (now (a .key)) (now (a .iv)) (now (a .input)) (now (a .output)) _ _ pe pr in
+    let w =
+    written (a .operation) (now (a .key)) (now (a .iv)) (now (a .input)) (now (a .output)) _ _ pe pr _ _ _
+    (c .before .before .before .before .before .load .ensures) bi bs (c .before .before .before .before .before .before .enum-told .given .1) (c .before .before .under-schedule .ensures) in
+    (same-applied _ _ _ (a .operation) (now (a .key)) (now (a .iv)) (now (a .input)) e (w .0), w .1)
 
 pub apply-spec : {M : Type 1} → statement M
 apply-spec =

@@ -59,6 +59,21 @@ impl Console {
             (b"schedule", [key]) => schedule(key),
             (b"encrypt", [key, block]) => one_block(dock::encrypt, key, block),
             (b"decrypt", [key, block]) => one_block(dock::decrypt, key, block),
+            (b"ecb-encrypt", [key, iv, data, room]) => ecb(dock::ecb_encrypt, key, iv, data, room),
+            (b"ecb-decrypt", [key, iv, data, room]) => ecb(dock::ecb_decrypt, key, iv, data, room),
+            (b"cbc-encrypt", [key, iv, data, room]) => {
+                chained(dock::cbc_encrypt, key, iv, data, room)
+            }
+            (b"cbc-decrypt", [key, iv, data, room]) => {
+                chained(dock::cbc_decrypt, key, iv, data, room)
+            }
+            (b"cfb-encrypt", [key, iv, data, room]) => {
+                chained(dock::cfb_encrypt, key, iv, data, room)
+            }
+            (b"cfb-decrypt", [key, iv, data, room]) => {
+                chained(dock::cfb_decrypt, key, iv, data, room)
+            }
+            (b"ofb", [key, iv, data, room]) => chained(dock::ofb, key, iv, data, room),
             (b"check", [key, message]) => check(key, message),
             (b"check-start", [key]) => self.check_start(key),
             (b"check-feed", [part]) => self.check_feed(part),
@@ -69,7 +84,6 @@ impl Console {
             (b"read-complete", []) => Some(number_of(&self.reader.complete()).to_string()),
             (b"wrap", [key, data, room]) => wrapping(dock::wrap, key, data, room),
             (b"unwrap", [key, data, room]) => wrapping(dock::unwrap, key, data, room),
-            (name, [key, iv, input, room]) => mode(name, key, iv, input, room),
             _ => None,
         }
     }
@@ -148,22 +162,20 @@ fn check(key: &[u8], message: &[u8]) -> Option<String> {
     Some(block_words(dock::check(&key, &message)))
 }
 
-type Moded = fn(&[u8], &[u8], &[u8], &mut [u8]) -> Result<(), Refusal>;
+type Ecb = fn(&[u8], &[u8], &[u8], &mut [u8]) -> Result<(), Refusal>;
 
-fn mode(name: &[u8], key: &[u8], iv: &[u8], data: &[u8], room: &[u8]) -> Option<String> {
-    let call: Moded = match name {
-        b"ecb-encrypt" => dock::ecb_encrypt,
-        b"ecb-decrypt" => dock::ecb_decrypt,
-        b"cbc-encrypt" => dock::cbc_encrypt,
-        b"cbc-decrypt" => dock::cbc_decrypt,
-        b"cfb-encrypt" => dock::cfb_encrypt,
-        b"cfb-decrypt" => dock::cfb_decrypt,
-        b"ofb" => dock::ofb,
-        _ => return None,
-    };
+fn ecb(call: Ecb, key: &[u8], iv: &[u8], data: &[u8], room: &[u8]) -> Option<String> {
     let (key, iv, data, mut room) = (input(key)?, input(iv)?, input(data)?, output(room)?);
     let result = call(&key, &iv, &data, room.lend());
     Some(format!("{} {}", number_of(&result), hex(&room)))
+}
+
+type Chained = fn(&[u8], &[u8], &[u8], &mut [u8]) -> Result<[u8; 16], Refusal>;
+
+fn chained(call: Chained, key: &[u8], iv: &[u8], data: &[u8], room: &[u8]) -> Option<String> {
+    let (key, iv, data, mut room) = (input(key)?, input(iv)?, input(data)?, output(room)?);
+    let result = call(&key, &iv, &data, room.lend());
+    Some(format!("{} {}", block_words(result), hex(&room)))
 }
 
 fn write(words: &[&[u8]]) -> Option<String> {
