@@ -9,6 +9,8 @@ use lib.Dec.{leb}
 use Rattle.blocks.specs.Blocks.{fits, blockPut, copied}
 use Rattle.field.proofs.double.Reads as double
 use Rattle.field.proofs.product.Reads as product
+use Rattle.logarithms.proofs.logarithm.Reads as logarithm
+use Rattle.logarithms.proofs.power.Reads as power
 use Rattle.sbox.proofs.table.Reads as table
 use Rattle.sbox.proofs.inv_table.Reads as inv-table
 use Rattle.blocks.proofs.load.Reads as load
@@ -53,6 +55,18 @@ product-asks-nothing κs a = tt
 
 pub product-determined : (κs : _) (a : _) (r r′ : _) (s s′ : _) → product.Post κs a r s → product.Post κs a r′ s′ → r ≡ r′
 product-determined κs a r r′ s s′ p q = p ∙ sym q
+
+pub logarithm-asks-nothing : (κs : _) (a : _) → logarithm.Asked κs a
+logarithm-asks-nothing κs a = tt
+
+pub logarithm-determined : (κs : _) (a : _) (r r′ : _) (s s′ : _) → logarithm.Post κs a r s → logarithm.Post κs a r′ s′ → r ≡ r′
+logarithm-determined κs a r r′ s s′ p q = p ∙ sym q
+
+pub power-asks-nothing : (κs : _) (a : _) → power.Asked κs a
+power-asks-nothing κs a = tt
+
+pub power-determined : (κs : _) (a : _) (r r′ : _) (s s′ : _) → power.Post κs a r s → power.Post κs a r′ s′ → r ≡ r′
+power-determined κs a r r′ s s′ p q = p ∙ sym q
 
 pub table-asks-nothing : (κs : _) (a : _) → table.Asked κs a
 table-asks-nothing κs a = tt

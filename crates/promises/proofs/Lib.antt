@@ -1,5 +1,6 @@
 pub mod HandCases
 pub mod Calls
+pub mod Products
 pub mod Cipher
 pub mod Keys
 pub mod Numbers
