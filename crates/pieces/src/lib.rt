@@ -1,11 +1,8 @@
 // Pieces of 16 bytes through an operation of a mode, with the table and the schedule lent that it looks up in:
 // those of the inverse cipher where it inverts, of the cipher elsewhere.
 mod last;
-mod pairs;
 
 use crate::last::to_the_end;
-use crate::pairs::goes_in_pairs;
-use crate::pairs::in_pairs;
 use blocks::load;
 use blocks::store;
 use sp800_38a::Operation;
@@ -36,9 +33,6 @@ pub fn run(
         return to_the_end(table, words, rounds, iv, both, input, output);
     }
     let n = both / 16;
-    if goes_in_pairs(operation) {
-        return in_pairs(table, words, rounds, operation, iv, n, input, output);
-    }
     in_order(table, words, rounds, operation, iv, n, input, output)
 }
 

@@ -40,8 +40,6 @@ use Rattle.cipher.proofs.encrypt.Reads as encrypt
 use Rattle.cipher.proofs.decrypt.Reads as decrypt
 use Rattle.rounds.proofs.encrypt_block.Reads as encrypt-block
 use Rattle.rounds.proofs.decrypt_block.Reads as decrypt-block
-use Rattle.rounds.proofs.encrypt_two.Reads as encrypt-two
-use Rattle.rounds.proofs.decrypt_two.Reads as decrypt-two
 use Rattle.cipher.proofs.inverse_words.Reads as inverse-words
 
 pub double-asks-nothing : (κs : _) (a : _) → double.Asked κs a
@@ -217,18 +215,6 @@ decrypt-block-asks-nothing κs a = tt
 
 pub decrypt-block-determined : (κs : _) (a : _) (r r′ : _) (s s′ : _) → decrypt-block.Post κs a r s → decrypt-block.Post κs a r′ s′ → r ≡ r′
 decrypt-block-determined κs a r r′ s s′ p q = p ∙ sym q
-
-pub encrypt-two-asks-nothing : (κs : _) (a : _) → encrypt-two.Asked κs a
-encrypt-two-asks-nothing κs a = tt
-
-pub encrypt-two-determined : (κs : _) (a : _) (r r′ : _) (s s′ : _) → encrypt-two.Post κs a r s → encrypt-two.Post κs a r′ s′ → r ≡ r′
-encrypt-two-determined κs a r r′ s s′ p q = p ∙ sym q
-
-pub decrypt-two-asks-nothing : (κs : _) (a : _) → decrypt-two.Asked κs a
-decrypt-two-asks-nothing κs a = tt
-
-pub decrypt-two-determined : (κs : _) (a : _) (r r′ : _) (s s′ : _) → decrypt-two.Post κs a r s → decrypt-two.Post κs a r′ s′ → r ≡ r′
-decrypt-two-determined κs a r r′ s s′ p q = p ∙ sym q
 
 pub inverse-words-asks-nothing : (κs : _) (a : _) → inverse-words.Asked κs a
 inverse-words-asks-nothing κs a = tt

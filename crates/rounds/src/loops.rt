@@ -9,14 +9,7 @@ ghost use mathlib.Core.Path.{_≡_};
 ghost use Prim.Native.Nat.{_-_, _<_};
 ghost use Rattle.octets.specs.Octets.{entry};
 ghost use Rattle.lookups.specs.Lookups.{addKeyWords, tableRounds, tableForth, tableBack, mixedEach};
-ghost use Rattle.rounds.specs.Pairs.{bothStates};
 ghost use Rattle.lookups.specs.Lookups as spec;
-
-// Two states on their way through the same rounds, neither of which waits for the other.
-pub struct TwoStates {
-    pub first: Columns,
-    pub second: Columns,
-}
 
 pub fn cipher(table: &[u32; 256], words: &[u32; 60], rounds: usize, s: Columns) -> Columns
     requires { ⌜ (0 < rounds) × (rounds < 15) ⌝ }
@@ -35,44 +28,6 @@ pub fn eq_inv_cipher(table: &[u32; 256], words: &[u32; 60], rounds: usize, s: Co
     eq_inv_last(table, words, rounds, t)
 }
 
-pub fn cipher_two(
-    table: &[u32; 256],
-    words: &[u32; 60],
-    rounds: usize,
-    a: Columns,
-    b: Columns,
-) -> TwoStates
-    requires { ⌜ (0 < rounds) × (rounds < 15) ⌝ }
-    ensures { λ r. ⌜ r ≡ bothStates (tableForth (entry (now (table .entry))) (now (words .entry)) rounds) a b ⌝ }
-{
-    let t = all_but_last_two(table, words, rounds, a, b);
-    let p = t.first;
-    let q = t.second;
-    TwoStates {
-        first: add_round_key(words, RoundKeyNumber(rounds), sub_shift(table, p)),
-        second: add_round_key(words, RoundKeyNumber(rounds), sub_shift(table, q)),
-    }
-}
-
-pub fn eq_inv_cipher_two(
-    table: &[u32; 256],
-    words: &[u32; 60],
-    rounds: usize,
-    a: Columns,
-    b: Columns,
-) -> TwoStates
-    requires { ⌜ (0 < rounds) × (rounds < 15) ⌝ }
-    ensures { λ r. ⌜ r ≡ bothStates (tableBack (entry (now (table .entry))) (now (words .entry)) rounds) a b ⌝ }
-{
-    let t = all_but_last_two(table, words, rounds, mirrored(a), mirrored(b));
-    let p = t.first;
-    let q = t.second;
-    TwoStates {
-        first: eq_inv_last(table, words, rounds, p),
-        second: eq_inv_last(table, words, rounds, q),
-    }
-}
-
 // All rounds but the last.
 fn all_but_last(table: &[u32; 256], words: &[u32; 60], rounds: usize, s: Columns) -> Columns
     requires { ⌜ (0 < rounds) × (rounds < 15) ⌝ }
@@ -83,28 +38,6 @@ fn all_but_last(table: &[u32; 256], words: &[u32; 60], rounds: usize, s: Columns
         t = add_round_key(words, RoundKeyNumber(n), sub_shift_mix(table, t));
     }
     t
-}
-
-fn all_but_last_two(
-    table: &[u32; 256],
-    words: &[u32; 60],
-    rounds: usize,
-    a: Columns,
-    b: Columns,
-) -> TwoStates
-    requires { ⌜ (0 < rounds) × (rounds < 15) ⌝ }
-    ensures { λ r. ⌜ r ≡ bothStates (λ s. tableRounds (entry (now (table .entry))) (now (words .entry)) (rounds - 1) (addKeyWords (now (words .entry)) 0 s)) a b ⌝ }
-{
-    let mut s = add_round_key(words, RoundKeyNumber(0), a);
-    let mut t = add_round_key(words, RoundKeyNumber(0), b);
-    for k in 1..rounds {
-        s = add_round_key(words, RoundKeyNumber(k), sub_shift_mix(table, s));
-        t = add_round_key(words, RoundKeyNumber(k), sub_shift_mix(table, t));
-    }
-    TwoStates {
-        first: s,
-        second: t,
-    }
 }
 
 // The last round of the way back, from the state after the others.

@@ -31,11 +31,8 @@ returns c =
     let ofb = any-length-ofb (a .operation) (sym (k .any-length .ensures) ∙ c .before .before .before .before .if1 .taken) in
     rw (ofb, ← k .before .shorter .ensures) (c .before .before .to-the-end .ensures)
 
-goes-in-pairs-requires : tie.Need-goes-in-pairs-requires
-goes-in-pairs-requires c κs = search needs
-
-in-pairs-requires : tie.Need-in-pairs-requires
-in-pairs-requires c κs = search needs
+in-order-requires : tie.Need-in-order-requires
+in-order-requires c κs = search needs
 
 same-length-2 : tie.Need-same-length-2
 same-length-2 c = search needs
@@ -43,30 +40,13 @@ same-length-2 c = search needs
 returns-2 : tie.Need-returns-2
 unfolding runOver reach
 returns-2 c =
-    let k = c .before .before .before .before .before .before .before in
-    let a = k .before .before .before .before .args in
-    let e = k .before .shorter .ensures in
-    let m = machine (oneTable (now (a .table)) (now (a .words)) (a .rounds)) (a .operation) in
-    c .before .before .in-pairs .ensures
-    ∙ whole-pieces m (a .iv) (now (a .input)) (now (a .output)) (k .before .shorter .result / 16) (omega (arith, e))
-    ∙ rw (sym (k .any-length .ensures) ∙ c .before .before .before .before .before .before .if1 .left, ← e)
-
-in-order-requires : tie.Need-in-order-requires
-in-order-requires c κs = search needs
-
-same-length-3 : tie.Need-same-length-3
-same-length-3 c = search needs
-
-returns-3 : tie.Need-returns-3
-unfolding runOver reach
-returns-3 c =
-    let k = c .before .before .before .before .before .before .before in
+    let k = c .before .before .before .before .before in
     let a = k .before .before .before .before .args in
     let e = k .before .shorter .ensures in
     let m = machine (oneTable (now (a .table)) (now (a .words)) (a .rounds)) (a .operation) in
     c .before .before .in-order .ensures
     ∙ whole-pieces m (a .iv) (now (a .input)) (now (a .output)) (k .before .shorter .result / 16) (omega (arith, e))
-    ∙ rw (sym (k .any-length .ensures) ∙ c .before .before .before .before .before .before .if1 .left, ← e)
+    ∙ rw (sym (k .any-length .ensures) ∙ c .before .before .before .before .if1 .left, ← e)
 
 pub run-spec : {M : Type 1} → statement M
 run-spec =
@@ -77,10 +57,6 @@ run-spec =
     to-the-end-requires
     same-length
     returns
-    goes-in-pairs-requires
-    in-pairs-requires
-    same-length-2
-    returns-2
     in-order-requires
-    same-length-3
-    returns-3)
+    same-length-2
+    returns-2)

@@ -5,7 +5,6 @@ use Rattle.lookups.specs.Lookups.{oneTable}
 use Rattle.sp800_38a.specs.Modes.{machine}
 use Rattle.sp800_38a.specs.declared.Operation.the-variants.{Ofb}
 use Rattle.pieces.proofs.Runs.{rest-none, rest-one}
-use native.Mathlib.Omega.{arith}
 use borrow.Author.Needs.{needs}
 use Rattle.pieces.proofs.last.last_piece.Statement.{statement}
 use Rattle.pieces.proofs.last.last_piece.Tie as tie

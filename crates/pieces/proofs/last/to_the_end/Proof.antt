@@ -1,5 +1,4 @@
 use Prim.Native.Nat.{_/_}
-use mathlib.Core.Path.{_≡_, _∙_}
 use denote.Ref.{now}
 use Rattle.lookups.specs.Lookups.{oneTable}
 use Rattle.sp800_38a.specs.Modes.{machine}
