@@ -2,8 +2,8 @@
 // block that stopped it has PLACE, REASON and, where the reason holds one, VALUE.
 use header::Reason;
 use header::Value;
-use image::Stop;
 use image::Turn;
+use turns::Stop;
 
 // Stands where there is no number: none of the six is as large.
 pub const NONE: u64 = 18446744073709551615;

@@ -14,11 +14,11 @@ use Rattle.sp800_38a.specs.declared.Operation.{Operation}
 use Rattle.cmac.specs.declared.Checked.{Checked}
 use Rattle.cmac.specs.declared.Started.{Started}
 use Rattle.header.specs.Rules.{reasonNumber, reasonValue}
-use Rattle.image.specs.Calls.{stopNumber}
+use Rattle.turns.specs.Turn.{stopNumber}
 use Rattle.image.specs.declared.Reader.{Reader}
 use Rattle.image.specs.declared.ReadStarted.{ReadStarted}
-use Rattle.image.specs.declared.Stop.{Stop}
-use Rattle.image.specs.declared.Stop.the-variants.{End, Asked, Lent, Room, At}
+use Rattle.turns.specs.declared.Stop.{Stop}
+use Rattle.turns.specs.declared.Stop.the-variants.{End, Asked, Lent, Room, At}
 use Rattle.image.specs.declared.Turn.{Turn}
 use Rattle.dock.specs.declared.ScheduleAnswer.{ScheduleAnswer}
 use Rattle.dock.specs.declared.BlockAnswer.{BlockAnswer}

@@ -1,10 +1,10 @@
 // What a turn's way to stop says in numbers.
 use header::Reason;
 use header::Value;
-use image::Stop;
+use turns::Stop;
 ghost use mathlib.Core.Path.{_≡_};
 ghost use Rattle.header.specs.Rules.{reasonValue};
-ghost use Rattle.image.specs.Calls.{stopNumber};
+ghost use Rattle.turns.specs.Turn.{stopNumber};
 ghost use Rattle.dock.specs.Answers.{valueHeld, noBlock, toldOf};
 
 // A refusal of the whole turn, or the reason of the block that stopped it, the value that it holds, and the block's place.

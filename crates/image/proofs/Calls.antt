@@ -2,7 +2,7 @@
 use mathlib.Core.Path.{_≡_, refl, sym, ap, ap₂, _∙_}
 use mathlib.Core.Bool.{Bool, true, false, _&&_, _||_, not}
 use mathlib.Core.List.{List, [], _∷_}
-use Prim.Native.Nat.{ℕ, _+_, _*_, _%_, _≤_}
+use Prim.Native.Nat.{ℕ, _+_, _≤_}
 use native.Mathlib.Omega.{arith}
 use types.Run.{OneOf, miss}
 use denote.Enum.Declared.{tagOf}
@@ -19,50 +19,22 @@ use Rattle.fips197.proofs.Aes.{key-lawful}
 use Rattle.header.specs.Rules.{countFits, lengthFits}
 use Rattle.format.specs.Edition.{one}
 use Rattle.format.specs.Sealed.{headFor}
-use Rattle.format.specs.Judge.{standing}
 use Rattle.format.specs.Lent.{sealedOver}
 use Rattle.format.proofs.Agree.{sealed-same}
-use Rattle.image.specs.Turn.{readBlocks, cut}
-use Rattle.image.specs.Calls.{bothTaken, writeRuled, writeAnswer, writeOutput, noSchedule, startWith, startOf, blocksBy, handled, whole, turnAfter, turnOf}
+use Rattle.turns.specs.Turn.{turnUnder}
+use Rattle.turns.specs.declared.BlocksRead.{BlocksRead}
+use Rattle.image.specs.Calls.{bothTaken, writeRuled, writeAnswer, writeOutput, noSchedule, startWith, startOf, keysOf, turnAfter, turnOf}
 use Rattle.image.specs.Lent.{sealedUnder}
 use Rattle.image.specs.declared.WriteAnswer.{WriteAnswer}
 use Rattle.image.specs.declared.WriteAnswer.the-variants.{Written, WriteKey, WriteCount, WriteNumber, WriteLength, WriteRoom}
 use Rattle.image.specs.declared.Reader.{Reader}
 use Rattle.image.specs.declared.ReadStarted.{ReadStarted}
-use Rattle.image.specs.declared.Stop.the-variants.{Asked, Lent, Room}
-use Rattle.image.specs.declared.Turn.{Turn}
 use Rattle.image.proofs.WriteAnswer.{the-type}
 
--- ---- a turn's own tests
-
-module _ (r : Reader) (given : List ℕ) (asked : ℕ) (out : List ℕ) where
-  pub turn-asked : (ltb 0 asked && leb asked 128) ≡ false → (whole r Asked, out) ≡ turnOf r given asked out
-  unfolding turnOf
-  turn-asked e = rw e
-
-  module _ (e1 : (ltb 0 asked && leb asked 128) ≡ true) where
-    pub turn-lent : eqb (length given % 512) 0 ≡ false → (whole r Lent, out) ≡ turnOf r given asked out
-    unfolding turnOf
-    turn-lent e2 = rw (e1, e2)
-
-    pub asked-most : asked ≤ 128
-    asked-most = leb-true asked 128 (second (ltb 0 asked) (leb asked 128) e1)
-      where
-        second : (t u : Bool) → (t && u) ≡ true → u ≡ true
-        second true u q = q
-        second false u q = let y : _≡_ {A = ℕ} 0 1 = cc in absurd (omega arith)
-
-    module _ (e2 : eqb (length given % 512) 0 ≡ true) (k : ℕ) (ek : k ≡ handled given asked) where
-      pub turn-room : ltb (length out) (k * 480) ≡ true → (whole r Room, out) ≡ turnOf r given asked out
-      unfolding turnOf
-      turn-room e3 = let f : ltb (length out) (handled given asked * 480) ≡ true = rw (← ek) e3 in rw (e1, e2, f)
-
-      pub turn-read : ltb (length out) (k * 480) ≡ false → (t : Turn) (o : List ℕ) → t ≡ turnAfter r (readBlocks (blocksBy r) (standing (r .progress)) (cut k given))
-          → o ≡ over (readBlocks (blocksBy r) (standing (r .progress)) (cut k given) .out) out → (t, o) ≡ turnOf r given asked out
-      unfolding turnOf
-      turn-read e3 t o et eo =
-          let f : ltb (length out) (handled given asked * 480) ≡ false = rw (← ek) e3 in
-          ap₂ (λ (x : Turn) (y : List ℕ). (x, y)) et eo ∙ rw (e1, e2, f, ek)
+-- the turn under a reader's schedules is the reader's
+pub turned : (r : Reader) (lent : List ℕ) (asked : ℕ) (out : List ℕ) (x : BlocksRead × List ℕ) → x ≡ turnUnder (keysOf r) (r .progress) lent asked out → (turnAfter r (x .0), x .1) ≡ turnOf r lent asked out
+unfolding turnOf
+turned r lent asked out x e = ap (λ (y : BlocksRead × List ℕ). (turnAfter r (y .0), y .1)) e
 
 -- ---- both keys
 

@@ -1,8 +1,8 @@
 -- The calls: writing a block, and starting, turning and asking a reader. Assumes nothing: these are definitions.
-use Prim.Native.Nat.{ℕ, _*_, _/_, _%_, min}
+use Prim.Native.Nat.{ℕ, _/_}
 use mathlib.Core.Bool.{Bool, _&&_, not}
 use mathlib.Core.List.{List}
-use lib.Dec.{eqb, ltb, leb}
+use lib.Dec.{eqb, ltb}
 use lib.ListN.{length, replicate}
 use Rattle.octets.specs.Octets.{choose, over}
 use Rattle.sbox.specs.Sbox.{sBox}
@@ -11,22 +11,18 @@ use Rattle.schedule.specs.declared.Expanded.{Expanded}
 use Rattle.schedule.specs.declared.KeySchedule.{KeySchedule}
 use Rattle.schedule.specs.declared.KeyAnswer.{KeyAnswer}
 use Rattle.schedule.specs.declared.KeyAnswer.the-variants.{Taken, KeyLength}
-use Rattle.fips197.specs.Cipher.{aesOf, standard}
-use Rattle.sp800_38b.specs.Cmac.{cmac}
-use Rattle.format.specs.Lent.{usable}
-use Rattle.format.specs.declared.Rounds.{Rounds}
-use Rattle.header.specs.Layout.{bodySize, blockSize}
-use Rattle.header.specs.Rules.{done, countFits, lengthFits, reasonNumber}
+use Rattle.fips197.specs.Cipher.{aesOf}
+use Rattle.header.specs.Layout.{blockSize}
+use Rattle.header.specs.Rules.{done, countFits, lengthFits}
 use Rattle.format.specs.Edition.{one, noCheck}
 use Rattle.format.specs.Sealed.{blockFor}
-use Rattle.format.specs.Judge.{Keys, begun, standing, BlockReader, ofEdition}
-use Rattle.image.specs.Turn.{Reading, readBlocks, cut}
+use Rattle.format.specs.Judge.{Keys, begun, BlockReader, ofEdition}
+use Rattle.turns.specs.Turn.{keysUnder, turnUnder}
+use Rattle.turns.specs.declared.BlocksRead.{BlocksRead}
 use Rattle.image.specs.declared.WriteAnswer.{WriteAnswer}
 use Rattle.image.specs.declared.WriteAnswer.the-variants.{Written, WriteKey, WriteCount, WriteNumber, WriteLength, WriteRoom}
 use Rattle.image.specs.declared.Reader.{Reader}
 use Rattle.image.specs.declared.ReadStarted.{ReadStarted}
-use Rattle.image.specs.declared.Stop.{Stop}
-use Rattle.image.specs.declared.Stop.the-variants.{End, Asked, Lent, Room, At}
 use Rattle.image.specs.declared.Turn.{Turn}
 use Rattle.image.specs.declared.Completion.{Completion}
 use Rattle.image.specs.declared.Completion.the-variants.{Complete, NotComplete}
@@ -87,10 +83,6 @@ startOf ekey ckey = startedBy (scheduleOf sBox ekey) (scheduleOf sBox ckey)
 
 -- ---- a turn
 
--- AES under the two schedules; they are usable where keys can have given them
-abbrev pub keysUnder : (ewords cwords : List ℕ) → Rounds → Keys
-keysUnder ewords cwords n = record { enc = standard ewords (n .enc); mac = cmac (standard cwords (n .chk)); usable = usable n }
-
 abbrev pub keysOf : Reader → Keys
 keysOf r = keysUnder (r .enc .words) (r .chk .words) (record { enc = r .enc .rounds; chk = r .chk .rounds })
 
@@ -98,40 +90,17 @@ keysOf r = keysUnder (r .enc .words) (r .chk .words) (record { enc = r .enc .rou
 abbrev pub blocksBy : Reader → BlockReader
 blocksBy r = ofEdition (keysOf r) one
 
--- k: the smaller of the blocks lent and the number asked for
-abbrev pub handled : (lent : List ℕ) (asked : ℕ) → ℕ
-handled lent asked = min asked (length lent / blockSize)
-
--- a turn that is refused as a whole
-abbrev pub whole : Reader → Stop → Turn
-whole r why = record { reader = r; accepted = 0; bytes = 0; stop = why }
-
-abbrev pub turnAfter : Reader → Reading → Turn
+-- the turn over the reader's schedules (crates/turns); the reader keeps them
+abbrev pub turnAfter : Reader → BlocksRead → Turn
 turnAfter r t = record {
-  reader = record { enc = r .enc; chk = r .chk; progress = t .standing .progress };
+  reader = record { enc = r .enc; chk = r .chk; progress = t .progress };
   accepted = t .accepted;
   bytes = t .bytes;
   stop = t .stop;
 }
 
-abbrev pub readingOf : Reader → (lent : List ℕ) (asked : ℕ) → Reading
-readingOf r lent asked = readBlocks (blocksBy r) (standing (r .progress)) (cut (handled lent asked) lent)
-
--- the answer and the output: 5, 6, 4, in that order, and then the blocks
 unfoldable pub turnOf : Reader → (lent : List ℕ) (asked : ℕ) (out : List ℕ) → Turn × List ℕ
-turnOf r lent asked out =
-    choose (not (ltb 0 asked && leb asked 128)) (whole r Asked, out)
-    (choose (not (eqb (length lent % blockSize) 0)) (whole r Lent, out)
-    (choose (ltb (length out) (handled lent asked * bodySize)) (whole r Room, out)
-    (turnAfter r (readingOf r lent asked), over (readingOf r lent asked .out) out)))
-
--- the number of each way to stop (docs/REFUSALS.md)
-abbrev pub stopNumber : Stop → ℕ
-stopNumber End = 0
-stopNumber Asked = 5
-stopNumber Lent = 6
-stopNumber Room = 4
-stopNumber (At place reason) = reasonNumber reason
+turnOf r lent asked out = (turnAfter r (turnUnder (keysOf r) (r .progress) lent asked out .0), turnUnder (keysOf r) (r .progress) lent asked out .1)
 
 -- ---- completion
 

@@ -1,31 +1,20 @@
 // Release images: a writer of blocks, and a reader that takes them in turns.
-mod turns;
-
-use crate::turns::BlocksRead;
-use crate::turns::read_blocks;
-use cipher::inverse_words;
 use format::Rounds;
 use header::Head;
 use header::Progress;
-use header::Reason;
 use header::count_fits;
 use header::length_fits;
 use schedule::KeyAnswer;
 use schedule::KeySchedule;
 use seal::seal;
 use tables::forward_table;
-use tables::inverse_table;
+use turns::Stop;
+use turns::turn;
 ghost use mathlib.Core.Path.{_≡_};
 ghost use mathlib.Core.Bool.{_&&_};
-ghost use Prim.Native.Nat.{_*_, _≤_, min};
-ghost use lib.Dec.{eqb, ltb, leb};
-ghost use lib.ListN.{length};
+ghost use lib.Dec.{eqb};
 ghost use Rattle.schedule.specs.Schedule.{keyNumber};
-ghost use Rattle.octets.specs.Octets.{over};
-ghost use Rattle.format.specs.Edition.{one};
-ghost use Rattle.format.specs.Judge.{standing, ofEdition};
-ghost use Rattle.image.specs.Turn.{readBlocks, cut};
-ghost use Rattle.image.specs.Lent.{sealedUnder, blocksRead};
+ghost use Rattle.image.specs.Lent.{sealedUnder};
 ghost use Rattle.image.specs.Calls as spec;
 
 pub enum WriteAnswer {
@@ -63,29 +52,6 @@ pub struct Reader {
 pub struct ReadStarted {
     pub answer: KeyAnswer,
     pub reader: Reader,
-}
-
-// How a turn stopped: at the end of what it was to do, refused as a whole, or at a block, whose place in the turn it names.
-pub enum Stop {
-    End,
-    Asked,
-    Lent,
-    Room,
-    At(usize, Reason),
-}
-
-impl Stop {
-    pub fn number(self) -> u32
-        ensures { λ r. ⌜ r ≡ spec.stopNumber self ⌝ }
-    {
-        match self {
-            Stop::End => 0,
-            Stop::Room => 4,
-            Stop::Asked => 5,
-            Stop::Lent => 6,
-            Stop::At(place, reason) => reason.number(),
-        }
-    }
 }
 
 // The reader after a turn, the blocks accepted, the sum of their payload lengths, and how it stopped.
@@ -183,29 +149,19 @@ pub fn read_start(ekey: &[u8], ckey: &[u8]) -> ReadStarted
 pub fn read_turn(reader: Reader, blocks: &[u8], asked: usize, output: &mut [u8]) -> Turn
     ensures { λ r. ⌜ (r, now (output .exit)) ≡ spec.turnOf reader (now (blocks .entry)) asked (now (output .entry)) ⌝ }
 {
-    if !may_ask(asked) {
-        return stopped(reader, Stop::Asked);
-    }
-    if blocks.len() % 512 != 0 {
-        return stopped(reader, Stop::Lent);
-    }
-    let k = smaller(asked, blocks.len() / 512);
-    if output.len() < k * 480 {
-        return stopped(reader, Stop::Room);
-    }
     let enc = reader.enc;
     let chk = reader.chk;
     let rounds = Rounds {
         enc: enc.rounds,
         chk: chk.rounds,
     };
-    let done = read_under(
+    let done = turn(
         &enc.words,
         &chk.words,
         rounds,
         reader.progress,
         blocks,
-        k,
+        asked,
         output,
     );
     let progress = done.progress;
@@ -306,67 +262,4 @@ fn started(answer: KeyAnswer, enc: KeySchedule, chk: KeySchedule) -> ReadStarted
             },
         },
     }
-}
-
-fn may_ask(asked: usize) -> bool
-    ensures { λ r. ⌜ r ≡ ltb 0 asked && leb asked 128 ⌝ }
-{
-    if asked == 0 {
-        return false;
-    }
-    asked <= 128
-}
-
-fn smaller(a: usize, b: usize) -> usize
-    ensures { λ r. ⌜ r ≡ min a b ⌝ }
-{
-    if a < b { a } else { b }
-}
-
-// A turn that is refused as a whole.
-fn stopped(reader: Reader, why: Stop) -> Turn
-    ensures { λ r. ⌜ r ≡ spec.whole reader why ⌝ }
-{
-    Turn {
-        reader,
-        accepted: 0,
-        bytes: 0,
-        stop: why,
-    }
-}
-
-// The blocks of a turn that has passed its own tests: tables and subkeys are made once, and lent.
-fn read_under(
-    ewords: &[u32; 60],
-    cwords: &[u32; 60],
-    rounds: Rounds,
-    progress: Progress,
-    blocks: &[u8],
-    k: usize,
-    output: &mut [u8],
-) -> BlocksRead
-    requires { ⌜ (k * 512 ≤ length (now blocks)) × (k * 480 ≤ length (now output)) × (k ≤ 128) ⌝ }
-    ensures answer { λ r. ⌜ r ≡ blocksRead (readBlocks (ofEdition (spec.keysUnder (now (ewords .entry)) (now (cwords .entry)) rounds) one) (standing progress) (cut k (now (blocks .entry)))) ⌝ }
-    ensures handed { λ _. ⌜ now (output .exit) ≡ over (readBlocks (ofEdition (spec.keysUnder (now (ewords .entry)) (now (cwords .entry)) rounds) one) (standing progress) (cut k (now (blocks .entry))) .out) (now (output .entry)) ⌝ }
-{
-    let mut dwords = [0u32; 60];
-    inverse_words(ewords, rounds.enc, &mut dwords);
-    let forth = forward_table();
-    let back = inverse_table();
-    let key1 = subkeys::key1(&forth, cwords, rounds.chk);
-    let key2 = subkeys::key2(key1);
-    read_blocks(
-        &forth,
-        &back,
-        ewords,
-        &dwords,
-        cwords,
-        &key1,
-        &key2,
-        rounds,
-        progress,
-        blocks,
-        k,
-        output,
-    )
 }

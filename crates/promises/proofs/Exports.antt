@@ -22,8 +22,8 @@ use Rattle.sp800_38a.specs.declared.Operation.{Operation}
 use Rattle.sp800_38a.specs.declared.Operation.the-variants.{EcbEncrypt, EcbDecrypt, CbcEncrypt, CbcDecrypt, CfbEncrypt, CfbDecrypt, Ofb}
 use Rattle.image.specs.Calls.{startOf, turnOf, writeNumber, completionNumber}
 use Rattle.image.specs.declared.Reader.{Reader}
-use Rattle.image.specs.declared.Stop.{Stop}
-use Rattle.image.specs.declared.Stop.the-variants.{End, Asked, Lent, Room, At}
+use Rattle.turns.specs.declared.Stop.{Stop}
+use Rattle.turns.specs.declared.Stop.the-variants.{End, Asked, Lent, Room, At}
 use Rattle.image.specs.declared.Turn.{Turn}
 use Rattle.wrap.specs.Calls.{wrapNumber}
 use Rattle.dock.specs.Answers.{scheduleAnswer, blockAnswer, modeApplied, chainAnswer, afterMode, checkAnswer, startAnswer, closeAnswer, flagOf, readerOf, stateOf, readStartAnswer, toldOf, turnAnswer}

@@ -31,16 +31,16 @@ use Rattle.header.proofs.Laws.{Wide}
 use Rattle.format.specs.Edition.{Edition, one, noCheck}
 use Rattle.format.specs.Sealed.{filled, headFor, blockFor, sealed, opened, checks, fillZero}
 use Rattle.format.specs.Judge.{Keys, Standing, standing, judge, advanced, BlockReader}
-use Rattle.image.specs.Turn.{Reading, readBlocks, cut}
-use Rattle.image.specs.Calls.{writeNumber, writeOutput, writeAnswer, startOf, keysOf, blocksBy, handled, readingOf, turnOf, stopNumber, completionOf}
+use Rattle.turns.specs.Turn.{Reading, readBlocks, cut, handled, stopNumber}
+use Rattle.image.specs.Calls.{writeNumber, writeOutput, writeAnswer, startOf, keysOf, blocksBy, turnOf, completionOf}
 use Rattle.image.specs.declared.WriteAnswer.{WriteAnswer}
 use Rattle.image.specs.declared.WriteAnswer.the-variants.{Written, WriteKey, WriteCount, WriteNumber, WriteLength, WriteRoom}
 use Rattle.image.specs.declared.Reader.{Reader}
-use Rattle.image.specs.declared.Stop.{Stop}
-use Rattle.image.specs.declared.Stop.the-variants.{End, Asked, Lent, Room, At}
+use Rattle.turns.specs.declared.Stop.{Stop}
+use Rattle.turns.specs.declared.Stop.the-variants.{End, Asked, Lent, Room, At}
 use Rattle.image.specs.declared.Turn.{Turn}
 use Rattle.image.specs.declared.Completion.the-variants.{Complete, NotComplete}
-use Rattle.promises.proofs.ImageTerms.{Proper, Met, Row, Says, unchecked, AllMet, Blocks, payload, plains, parts, AllFilled, Fit, WriteSays, afterWrite, Wrote, blocks, image, inState, readerOf, Waits, moved, FromStart, Sound, given, Fair, StartSays, StopSays, CompletionSays, Whole, Lending, AllFair, offered, concat, lendEach, AllFew, readerAfter, AllAccepted, handedOut, counted, andThen}
+use Rattle.promises.proofs.ImageTerms.{Proper, Met, Row, Says, unchecked, AllMet, Blocks, payload, plains, parts, AllFilled, Fit, WriteSays, afterWrite, Wrote, blocks, image, inState, readerOf, Waits, moved, FromStart, Sound, readingOf, given, Fair, StartSays, StopSays, CompletionSays, Whole, Lending, AllFair, offered, concat, lendEach, AllFew, readerAfter, AllAccepted, handedOut, counted, andThen}
 use Rattle.promises.proofs.Keys.{KeyTaken}
 use Rattle.promises.proofs.Lemmas.ImageSealed.{sealed-size, sealed-bytes, sealed-checks, sealed-opened, sealed-head, sealed-fill}
 use Rattle.promises.proofs.Lemmas.ImageJudge.{damaged-check, accepted-met, accepted-sealed, verdict-says, no-row-accepted, met-accepted, fits-count, no-keys}

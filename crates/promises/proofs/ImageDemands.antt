@@ -19,15 +19,18 @@ use Rattle.header.specs.Layout.{headOf}
 use Rattle.format.specs.Edition.{one}
 use Rattle.format.specs.Sealed.{filled}
 use Rattle.format.specs.Judge.{Keys, standing}
+use Rattle.format.specs.declared.Rounds.{Rounds}
 use Rattle.format.specs.Lent.{usable, lentMac, lentKeys, isBlock, openedOver, sealedOver}
 use Rattle.format.proofs.Sizes.{mac-sized}
 use Rattle.format.proofs.Judging.{checks-none, verdict-read, head-read}
 use Rattle.format.proofs.Opening.{fill-of-none}
-use Rattle.image.specs.Calls.{writeNumber, writeOutput, keysOf, handled, turnOf, stopNumber, completionNumber}
+use Rattle.image.specs.Calls.{writeNumber, writeOutput, keysOf, turnAfter, turnOf, completionNumber}
+use Rattle.turns.specs.Turn.{handled, stopNumber}
+use Rattle.turns.specs.declared.BlocksRead.{BlocksRead}
 use Rattle.image.specs.declared.WriteAnswer.{WriteAnswer}
 use Rattle.image.specs.declared.Reader.{Reader}
 use Rattle.image.specs.declared.ReadStarted.{ReadStarted}
-use Rattle.image.specs.declared.Stop.the-variants.{End, At}
+use Rattle.turns.specs.declared.Stop.the-variants.{End, At}
 use Rattle.image.specs.declared.Turn.{Turn}
 use Rattle.promises.proofs.Keys.{KeyTaken}
 use Rattle.promises.proofs.ImageTerms.{Row, Says, AllMet, Fit, WriteSays, StartSays, StopSays, CompletionSays, Fair, Wrote, Waits, Whole, given, readerOf}
@@ -48,6 +51,7 @@ use Rattle.image.proofs.read_start.Reads as read-start
 use Rattle.image.proofs.read_complete.Reads as read-complete
 use Rattle.image.proofs.write.Reads as write
 use Rattle.image.proofs.read_turn.Reads as read-turn
+use Rattle.turns.proofs.turn.Reads as turn
 
 pub equal-asks-nothing : (κs : _) (a : _) → equal.Asked κs a
 equal-asks-nothing κs a = tt
@@ -213,6 +217,50 @@ read-turn-refused-keeps κs a r s p h =
     let e : r .stop ≡ turnOf (a .0) (now (a .1 .0)) (a .1 .1 .0) (now (a .1 .1 .1 .0)) .0 .stop = ap (λ (x : Turn × List ℕ). x .0 .stop) p in
     let k = p ∙ turn-refusal-keeps (a .0) (now (a .1 .0)) (a .1 .1 .0) (now (a .1 .1 .1 .0)) (r .stop) h (sym e) in
     (ap (λ (x : Turn × List ℕ). x .1) k, ap (λ (x : Turn × List ℕ). x .0 .reader) k)
+
+-- the same of a turn under schedules that are lent
+pub turn-asks-nothing : (κs : _) (a : _) → turn.Asked κs a
+turn-asks-nothing κs a = tt
+
+pub turn-determined : (κs : _) (a : _) (r r′ : _) (s s′ : _) → turn.Post κs a r s → turn.Post κs a r′ s′
+    → (r ≡ r′) × (now (s .1 .1 .1 .1 .1 .1 .0) ≡ now (s′ .1 .1 .1 .1 .1 .1 .0))
+turn-determined κs a r r′ s s′ p q =
+    let e = p ∙ sym q in
+    (ap (λ (x : BlocksRead × List ℕ). x .0) e, ap (λ (x : BlocksRead × List ℕ). x .1) e)
+
+-- the reader that has these schedules and this progress
+abbrev holding : (ewords cwords : List ℕ) → Rounds → Progress → Reader
+holding ewords cwords n s = record { enc = record { words = ewords; rounds = n .enc }; chk = record { words = cwords; rounds = n .chk }; progress = s }
+
+module _ (κs : _) (a : _) (r : _) (s : _) (p : turn.Post κs a r s) where
+  abbrev held : Reader
+  held = holding (now (a .0)) (now (a .1 .0)) (a .1 .1 .0) (a .1 .1 .1 .0)
+
+  abbrev turnLent : List ℕ
+  turnLent = now (a .1 .1 .1 .1 .0)
+
+  abbrev asked : ℕ
+  asked = a .1 .1 .1 .1 .1 .0
+
+  abbrev before : List ℕ
+  before = now (a .1 .1 .1 .1 .1 .1 .0)
+
+  -- it is the turn of that reader
+  pub turn-is-the-readers : (turnAfter held r, now (s .1 .1 .1 .1 .1 .1 .0)) ≡ turnOf held turnLent asked before
+  unfolding turnOf
+  turn-is-the-readers = ap (λ (x : BlocksRead × List ℕ). (turnAfter held (x .0), x .1)) p
+
+  pub turn-refused-keeps : Whole (r .stop) → (now (s .1 .1 .1 .1 .1 .1 .0) ≡ before) × (r .progress ≡ a .1 .1 .1 .0)
+  turn-refused-keeps h =
+      let e : r .stop ≡ turnOf held turnLent asked before .0 .stop = ap (λ (x : Turn × List ℕ). x .0 .stop) turn-is-the-readers in
+      let k = turn-is-the-readers ∙ turn-refusal-keeps held turnLent asked before (r .stop) h (sym e) in
+      (ap (λ (x : Turn × List ℕ). x .1) k, ap (λ (x : Turn × List ℕ). x .0 .reader .progress) k)
+
+  pub turn-as-told : StopSays held turnLent asked before (r .stop)
+  turn-as-told = subst (StopSays held turnLent asked before) (sym (ap (λ (x : Turn × List ℕ). x .0 .stop) turn-is-the-readers)) (turn-stop-as-told held turnLent asked before)
+
+  pub turn-done : Fair turnLent asked before → AllMet (keysOf held) one (standing (a .1 .1 .1 .0)) (handled turnLent asked) (given turnLent asked) → stopNumber (r .stop) ≡ 0
+  turn-done f m = ap (λ (x : Turn × List ℕ). stopNumber (x .0 .stop)) turn-is-the-readers ∙ ap stopNumber (turn-ends held turnLent asked before f m)
 
 -- ---- demand 2: each answer is the first row of the table that holds, and where none does the call is done
 

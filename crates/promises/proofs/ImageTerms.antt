@@ -19,13 +19,13 @@ use Rattle.header.specs.declared.Verdict.the-variants.{Accepted, Refused}
 use Rattle.format.specs.Edition.{Edition, one, noCheck}
 use Rattle.format.specs.Sealed.{filled, blockFor, opened, checks, fillZero}
 use Rattle.format.specs.Judge.{Keys, Standing, standing, taken}
-use Rattle.image.specs.Turn.{Reading, cut}
-use Rattle.image.specs.Calls.{writeAnswer, writeOutput, startOf, keysOf, handled, turnOf}
+use Rattle.turns.specs.Turn.{Reading, cut, handled, readingBy}
+use Rattle.image.specs.Calls.{writeAnswer, writeOutput, startOf, keysOf, turnOf}
 use Rattle.image.specs.declared.WriteAnswer.{WriteAnswer}
 use Rattle.image.specs.declared.WriteAnswer.the-variants.{Written, WriteKey, WriteCount, WriteNumber, WriteLength, WriteRoom}
 use Rattle.image.specs.declared.Reader.{Reader}
-use Rattle.image.specs.declared.Stop.{Stop}
-use Rattle.image.specs.declared.Stop.the-variants.{End, Asked, Lent, Room, At}
+use Rattle.turns.specs.declared.Stop.{Stop}
+use Rattle.turns.specs.declared.Stop.the-variants.{End, Asked, Lent, Room, At}
 use Rattle.image.specs.declared.Turn.{Turn}
 use Rattle.image.specs.declared.Completion.{Completion}
 use Rattle.image.specs.declared.Completion.the-variants.{Complete, NotComplete}
@@ -214,6 +214,10 @@ pub record Sound (s : Progress) : Type 0 where
   pub begun : s .fixed ≡ false → s .next ≡ 0
 
 -- ---- turns
+
+-- what a turn that is not refused as a whole reads
+abbrev pub readingOf : Reader → (lent : List ℕ) (asked : ℕ) → Reading
+readingOf r lent asked = readingBy (keysOf r) (r .progress) lent asked
 
 -- the blocks that a turn handles
 abbrev pub given : (lent : List ℕ) (asked : ℕ) → List (List ℕ)

@@ -4,7 +4,7 @@ use Rattle.schedule.proofs.KeyAnswer.number.Reads as key-number
 use Rattle.modes.proofs.ModeAnswer.number.Reads as mode-number
 use Rattle.wrap.proofs.WrapAnswer.number.Reads as wrap-number
 use Rattle.image.proofs.WriteAnswer.number.Reads as write-number
-use Rattle.image.proofs.Stop.number.Reads as stop-number
+use Rattle.turns.proofs.Stop.number.Reads as stop-number
 use Rattle.image.proofs.Completion.number.Reads as completion-number
 use Rattle.header.proofs.Reason.number.Reads as reason-number
 use Rattle.header.proofs.Reason.value.Reads as reason-value

@@ -26,13 +26,14 @@ use Rattle.header.proofs.Laws.{Wide}
 use Rattle.format.specs.Edition.{one, noCheck}
 use Rattle.format.specs.Sealed.{headFor, blockFor, opened}
 use Rattle.format.specs.Judge.{Keys, begun, standing, judge, advanced}
-use Rattle.image.specs.Turn.{Reading, readBlocks, cut}
-use Rattle.image.specs.Calls.{bothTaken, writeRuled, writeAnswer, writeOutput, startedBy, startOf, keysOf, blocksBy, handled, whole, turnAfter, readingOf, turnOf}
+use Rattle.turns.specs.Turn.{Reading, readBlocks, cut, handled, whole, blocksRead, turnUnder}
+use Rattle.image.specs.Calls.{bothTaken, writeRuled, writeAnswer, writeOutput, startedBy, startOf, keysOf, blocksBy, turnAfter, turnOf}
+use Rattle.turns.specs.declared.BlocksRead.{BlocksRead}
 use Rattle.image.specs.declared.WriteAnswer.the-variants.{Written, WriteKey, WriteCount, WriteNumber, WriteLength, WriteRoom}
 use Rattle.image.specs.declared.Reader.{Reader}
-use Rattle.image.specs.declared.Stop.the-variants.{End, Asked, Lent, Room}
+use Rattle.turns.specs.declared.Stop.the-variants.{End, Asked, Lent, Room}
 use Rattle.image.specs.declared.Turn.{Turn}
-use Rattle.promises.proofs.ImageTerms.{Blocks, payload, Fit, WriteSays, inState, given, Fair, StopSays}
+use Rattle.promises.proofs.ImageTerms.{Blocks, payload, Fit, WriteSays, inState, readingOf, given, Fair, StopSays}
 use Rattle.promises.proofs.Keys.{KeyTaken}
 use Rattle.promises.proofs.Lemmas.ImageSealed.{sealed-size}
 use Rattle.promises.proofs.Lemmas.ImageJudge.{and-true, fits-le, count-fits, fits-count}
@@ -236,8 +237,8 @@ given-blocks lent asked b = cut-blocks (handled lent asked) lent (omega arith) b
 
 module _ (r : Reader) (lent : List ℕ) (asked : ℕ) (out : List ℕ) where
   -- a turn that is not refused as a whole is the run over the blocks handled
-  pub fair-turn : Fair lent asked out → turnOf r lent asked out ≡ (turnAfter r (readingOf r lent asked), over (readingOf r lent asked .out) out)
-  unfolding turnOf
+  pub fair-turn : Fair lent asked out → turnOf r lent asked out ≡ (turnAfter r (blocksRead (readingOf r lent asked)), over (readingOf r lent asked .out) out)
+  unfolding turnOf turnUnder
   fair-turn f =
       rw (
         lt-ltb 0 asked (f .some-asked),
@@ -248,13 +249,13 @@ module _ (r : Reader) (lent : List ℕ) (asked : ℕ) (out : List ℕ) where
 
   -- every turn is refused as a whole, by 5, 6 or 4, where the table says so, or is that run
   pub told-turn : (P : Turn × List ℕ → Type 0)
-      → (StopSays r lent asked out Asked → P (whole r Asked, out)) → (StopSays r lent asked out Lent → P (whole r Lent, out)) → (StopSays r lent asked out Room → P (whole r Room, out))
-      → (Fair lent asked out → P (turnAfter r (readingOf r lent asked), over (readingOf r lent asked .out) out)) → P (turnOf r lent asked out)
-  unfolding turnOf
+      → (StopSays r lent asked out Asked → P (turnAfter r (whole (r .progress) Asked), out)) → (StopSays r lent asked out Lent → P (turnAfter r (whole (r .progress) Lent), out)) → (StopSays r lent asked out Room → P (turnAfter r (whole (r .progress) Room), out))
+      → (Fair lent asked out → P (turnAfter r (blocksRead (readingOf r lent asked)), over (readingOf r lent asked .out) out)) → P (turnOf r lent asked out)
+  unfolding turnOf turnUnder
   told-turn P a l o f = go (ltb 0 asked && leb asked 128) (eqb (length lent % 512) 0) (ltb (length out) (handled lent asked * 480)) refl refl refl
     where
-      t : Turn × List ℕ
-      t = (turnAfter r (readingOf r lent asked), over (readingOf r lent asked .out) out)
+      all : (x y z : Bool) → BlocksRead × List ℕ
+      all x y z = choose (not x) (whole (r .progress) Asked, out) (choose (not y) (whole (r .progress) Lent, out) (choose z (whole (r .progress) Room, out) (blocksRead (readingOf r lent asked), over (readingOf r lent asked .out) out)))
 
       bad : (ltb 0 asked && leb asked 128) ≡ false → 0 < asked → asked ≤ 128 → ⊥
       bad e p q =
@@ -265,7 +266,7 @@ module _ (r : Reader) (lent : List ℕ) (asked : ℕ) (out : List ℕ) where
       some e = let x = and-true (ltb 0 asked) (leb asked 128) e in (ltb-true 0 asked (x .0), leb-true asked 128 (x .1))
 
       go : (x y z : Bool) → (ltb 0 asked && leb asked 128) ≡ x → eqb (length lent % 512) 0 ≡ y → ltb (length out) (handled lent asked * 480) ≡ z
-          → P (choose (not x) (whole r Asked, out) (choose (not y) (whole r Lent, out) (choose z (whole r Room, out) t)))
+          → P (turnAfter r (all x y z .0), all x y z .1)
       go false y z ex ey ez = a (bad ex)
       go true false z ex ey ez = let x = some ex in l (x .0, x .1, eqb-false (length lent % 512) 0 ey)
       go true true true ex ey ez =
@@ -277,8 +278,8 @@ module _ (r : Reader) (lent : List ℕ) (asked : ℕ) (out : List ℕ) where
           let h : handled lent asked * 480 ≤ length out = ltb-false (length out) (handled lent asked * 480) ez in
           f (record { some-asked = x .0; few-asked = x .1; blocks-lent = eqb-true (length lent % 512) 0 ey; room = omega arith })
 
-  pub by-turn : (P : Turn × List ℕ → Type 0) → P (whole r Asked, out) → P (whole r Lent, out) → P (whole r Room, out)
-      → (Fair lent asked out → P (turnAfter r (readingOf r lent asked), over (readingOf r lent asked .out) out)) → P (turnOf r lent asked out)
+  pub by-turn : (P : Turn × List ℕ → Type 0) → P (turnAfter r (whole (r .progress) Asked), out) → P (turnAfter r (whole (r .progress) Lent), out) → P (turnAfter r (whole (r .progress) Room), out)
+      → (Fair lent asked out → P (turnAfter r (blocksRead (readingOf r lent asked)), over (readingOf r lent asked .out) out)) → P (turnOf r lent asked out)
   by-turn P a l o f = told-turn P (λ x. a) (λ x. l) (λ x. o) f
 
   -- 480 bytes are handed out of each accepted block, whatever the reader
@@ -303,7 +304,7 @@ pub one-accepted : (r : Reader) (b : List ℕ) (asked : ℕ) (out : List ℕ) �
 unfolding cut readBlocks
 one-accepted r b asked out lb la ha lo e =
     fair-turn r b asked out (record { some-asked = la; few-asked = ha; blocks-lent = omega arith; room = omega (arith, n) })
-    ∙ ap (λ (t : Reading). (turnAfter r t, over (t .out) out)) (ap (readBlocks (blocksBy r) (standing (r .progress))) c ∙ ran-accepted (blocksBy r) (standing (r .progress)) b [] e)
+    ∙ ap (λ (t : Reading). (turnAfter r (blocksRead t), over (t .out) out)) (ap (readBlocks (blocksBy r) (standing (r .progress))) c ∙ ran-accepted (blocksBy r) (standing (r .progress)) b [] e)
     ∙ ap₂ (λ (m : ℕ) (x : List ℕ). (record { reader = inState r (advanced (r .progress) (headOf b)); accepted = 1; bytes = m; stop = End }, over x out))
     (add-zero (headOf b .len)) (append-nil (opened (keysOf r .enc) b))
   where

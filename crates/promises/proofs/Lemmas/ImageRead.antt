@@ -19,12 +19,12 @@ use Rattle.header.proofs.Laws.{Wide}
 use Rattle.format.specs.Edition.{one, noCheck}
 use Rattle.format.specs.Sealed.{filled, headFor, blockFor, opened}
 use Rattle.format.specs.Judge.{Keys, Standing, standing, judge, ofEdition}
-use Rattle.image.specs.Turn.{Reading, readBlocks}
-use Rattle.image.specs.Calls.{keysOf, handled, turnAfter, readingOf}
+use Rattle.turns.specs.Turn.{Reading, readBlocks, handled, blocksRead}
+use Rattle.image.specs.Calls.{keysOf, turnAfter}
 use Rattle.image.specs.declared.Reader.{Reader}
-use Rattle.image.specs.declared.Stop.the-variants.{End}
+use Rattle.turns.specs.declared.Stop.the-variants.{End}
 use Rattle.image.specs.declared.Turn.{Turn}
-use Rattle.promises.proofs.ImageTerms.{unchecked, Blocks, payload, plains, parts, lengths, AllFilled, partsIn, Fit, Wrote, readerOf, Waits, FromStart, Sound, given, Lending, AllFair, offered, readerAfter, AllAccepted, handedOut, counted, started, turn}
+use Rattle.promises.proofs.ImageTerms.{readingOf, unchecked, Blocks, payload, plains, parts, lengths, AllFilled, partsIn, Fit, Wrote, readerOf, Waits, FromStart, Sound, given, Lending, AllFair, offered, readerAfter, AllAccepted, handedOut, counted, started, turn}
 use Rattle.promises.proofs.Lemmas.ImageSealed.{sealed-size, sealed-opened, sealed-head}
 use Rattle.promises.proofs.Lemmas.ImageJudge.{sealed-accepted, damaged-refused}
 use Rattle.promises.proofs.Lemmas.ImageTurn.{ran-met, ran-out, met-filled, parts-in, ran-bytes, parts-length}
@@ -128,7 +128,7 @@ turns-read k lk r e (l ∷ ls) f w p =
     let full : AllFilled (k .enc) bs = subst (AllFilled (k .enc)) all (met-filled k one lk s (readBlocks d s bs .accepted) bs (wb .0) (ran-met k one s bs)) in
     let o : R .out ≡ plains (k .enc) bs = ap (λ (x : Reading). x .out) er ∙ ran-out k one s bs ∙ ap (plains (k .enc)) all in
     let n : R .bytes ≡ length (parts (k .enc) bs) = ap (λ (x : Reading). x .bytes) er ∙ ran-bytes d s bs ∙ ap lengths all ∙ sym (parts-length (k .enc) bs full) in
-    let ih = turns-read k lk (turnAfter r R .reader) e ls (f .1) (wb .1)
+    let ih = turns-read k lk (turnAfter r (blocksRead R) .reader) e ls (f .1) (wb .1)
     (subst (λ (x : Reading). Passes k one (standing (x .standing .progress)) (offered ls)) (sym er) (passes-on k (readBlocks d s bs .standing) (offered ls) (pf .2))) in
     let h : partsIn bs (over (R .out) (l .out)) ≡ parts (k .enc) bs =
     ap (λ (x : List ℕ). partsIn bs (over x (l .out))) o ∙ parts-in (k .enc) lk bs (drop (length (plains (k .enc) bs)) (l .out)) (wb .0) full in

@@ -13,8 +13,8 @@ use Rattle.header.specs.declared.Reason.the-variants.{AfterLast, Count, Number,
 use Rattle.header.specs.declared.Verdict.the-variants.{Accepted, Refused}
 use Rattle.format.specs.Edition.{Edition}
 use Rattle.format.specs.Judge.{Keys, Standing, begun, judge, taken, ofEdition}
-use Rattle.image.specs.Turn.{Reading, readBlocks}
-use Rattle.image.specs.declared.Stop.the-variants.{At}
+use Rattle.turns.specs.Turn.{Reading, readBlocks}
+use Rattle.turns.specs.declared.Stop.the-variants.{At}
 use Rattle.promises.proofs.ImageTerms.{Sound, Says}
 use Rattle.promises.proofs.Lemmas.ImageJudge.{accepted-met, verdict-says}
 use Rattle.promises.proofs.Lemmas.ImageTurn.{by-verdict, stop-place}

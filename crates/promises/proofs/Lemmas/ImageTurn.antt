@@ -15,9 +15,9 @@ use Rattle.header.specs.declared.Verdict.the-variants.{Accepted, Refused}
 use Rattle.format.specs.Edition.{Edition}
 use Rattle.format.specs.Sealed.{opened}
 use Rattle.format.specs.Judge.{Keys, Standing, taken, BlockReader, ofEdition}
-use Rattle.image.specs.Turn.{Reading, later, onward, readBlocks}
-use Rattle.image.specs.declared.Stop.{Stop}
-use Rattle.image.specs.declared.Stop.the-variants.{End, Asked, Lent, Room, At}
+use Rattle.turns.specs.Turn.{Reading, later, onward, readBlocks}
+use Rattle.turns.specs.declared.Stop.{Stop}
+use Rattle.turns.specs.declared.Stop.the-variants.{End, Asked, Lent, Room, At}
 use Rattle.promises.proofs.ImageTerms.{AllMet, Blocks, payload, plains, parts, lengths, AllFilled, partsIn, moved, laterBy, andThen}
 use Rattle.promises.proofs.Lemmas.ImageJudge.{accepted-met, met-accepted, opened-length, payload-length, payload-filled}
 

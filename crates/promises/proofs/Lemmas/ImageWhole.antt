@@ -23,8 +23,8 @@ use Rattle.header.proofs.Laws.{Wide}
 use Rattle.format.specs.Edition.{Edition, noCheck}
 use Rattle.format.specs.Sealed.{headFor, blockFor}
 use Rattle.format.specs.Judge.{Keys, Standing, judge, fresh, taken, ofEdition}
-use Rattle.image.specs.Turn.{Reading, later, readBlocks}
-use Rattle.image.specs.declared.Stop.the-variants.{End}
+use Rattle.turns.specs.Turn.{Reading, later, readBlocks}
+use Rattle.turns.specs.declared.Stop.the-variants.{End}
 use Rattle.promises.proofs.ImageTerms.{Proper, Right, Blocks, payload, parts, blocks, written, image}
 use Rattle.promises.proofs.Lemmas.ImageSealed.{filled-payload, sealed-size, sealed-bytes, sealed-opened, sealed-head}
 use Rattle.promises.proofs.Lemmas.ImageJudge.{sealed-accepted}

@@ -1,7 +1,7 @@
 use mathlib.Core.Path.{refl}
 use borrow.Author.Needs.{needs}
-use Rattle.image.proofs.turns.advanced.Statement.{statement}
-use Rattle.image.proofs.turns.advanced.Tie as tie
+use Rattle.turns.proofs.advanced.Statement.{statement}
+use Rattle.turns.proofs.advanced.Tie as tie
 
 cast-t3 : tie.Need-cast-t3
 cast-t3 c = search needs

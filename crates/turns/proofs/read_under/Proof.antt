@@ -1,13 +1,12 @@
 use mathlib.Core.Path.{ap, _∙_}
 use Rattle.octets.specs.Octets.{Bytes, over}
 use Rattle.format.specs.Judge.{standing}
-use Rattle.image.specs.Turn.{Reading}
-use Rattle.image.specs.Lent.{blocksRead}
-use Rattle.image.proofs.Agree.{reading-is}
+use Rattle.turns.specs.Turn.{Reading, blocksRead}
+use Rattle.turns.proofs.Agree.{reading-is}
 use native.Mathlib.Omega.{arith}
 use borrow.Author.Needs.{needs}
-use Rattle.image.proofs.read_under.Statement.{statement}
-use Rattle.image.proofs.read_under.Tie as tie
+use Rattle.turns.proofs.read_under.Statement.{statement}
+use Rattle.turns.proofs.read_under.Tie as tie
 
 inverse-words-requires : tie.Need-inverse-words-requires
 inverse-words-requires c κs = search needs

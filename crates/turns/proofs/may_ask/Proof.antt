@@ -2,8 +2,8 @@ use borrow.Author.Tests.{lt-ltb}
 use Prim.Native.Nat.{_<_}
 use mathlib.Core.Path.{refl}
 use native.Mathlib.Omega.{arith}
-use Rattle.image.proofs.may_ask.Statement.{statement}
-use Rattle.image.proofs.may_ask.Tie as tie
+use Rattle.turns.proofs.may_ask.Statement.{statement}
+use Rattle.turns.proofs.may_ask.Tie as tie
 
 returns : tie.Need-returns
 returns c = rw (c .if1 .taken) refl

@@ -17,8 +17,7 @@ use Rattle.format.specs.Judge.{Standing, BlockReader, ofEdition, taken}
 use Rattle.format.specs.Lent.{lentKeys}
 use Rattle.format.specs.declared.Rounds.{Rounds}
 use Rattle.format.proofs.Agree.{verdict-same, plain-same}
-use Rattle.image.specs.Calls.{keysUnder}
-use Rattle.image.specs.Turn.{Reading, onward, readBlocks, cut}
+use Rattle.turns.specs.Turn.{Reading, onward, readBlocks, cut, keysUnder}
 
 -- two readers that give every block the same verdict, and open alike what they accept
 module _ (d e : BlockReader) (verdicts : (s : Standing) (b : List ℕ) → Octets 512 b → d .verdict s b ≡ e .verdict s b)

@@ -15,11 +15,11 @@ use Rattle.header.specs.declared.Verdict.{Verdict}
 use Rattle.header.specs.declared.Verdict.the-variants.{Accepted, Refused}
 use Rattle.format.specs.Edition.{one}
 use Rattle.format.specs.Judge.{Keys, Standing, standing, advanced, taken, judge, BlockReader, ofEdition}
-use Rattle.image.specs.Turn.{Reading, later, onward, readBlocks, cut}
-use Rattle.image.specs.Lent.{following, blocksReadWith, blocksRead}
-use Rattle.image.specs.declared.Stop.{Stop}
-use Rattle.image.specs.declared.Stop.the-variants.{End, Asked, Lent, Room, At}
-use Rattle.image.specs.declared.turns.BlocksRead.{BlocksRead}
+use Rattle.turns.specs.Turn.{Reading, later, onward, readBlocks, cut, blocksReadWith, blocksRead}
+use Rattle.turns.specs.Lent.{following}
+use Rattle.turns.specs.declared.Stop.{Stop}
+use Rattle.turns.specs.declared.Stop.the-variants.{End, Asked, Lent, Room, At}
+use Rattle.turns.specs.declared.BlocksRead.{BlocksRead}
 
 -- a place counted from j blocks earlier
 laterBy : ℕ → Stop → Stop

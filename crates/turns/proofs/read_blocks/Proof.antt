@@ -14,13 +14,13 @@ use Rattle.format.specs.Sealed.{opened}
 use Rattle.format.proofs.Sizes.{encrypt-sized, decrypt-sized, opened-size}
 use Rattle.format.proofs.Opening.{open-part}
 use Rattle.format.proofs.Judging.{accepted-next, verdict-read, head-read}
-use Rattle.image.specs.Turn.{readBlocks, cut}
-use Rattle.image.specs.declared.turns.BlocksRead.{BlocksRead}
-use Rattle.image.proofs.Blockwise.{finish, finish-start, part-is, part-put, part-size, part-keeps, left-end, step-refused, step-accepted, one-forgets}
+use Rattle.turns.specs.Turn.{readBlocks, cut}
+use Rattle.turns.specs.declared.BlocksRead.{BlocksRead}
+use Rattle.turns.proofs.Blockwise.{finish, finish-start, part-is, part-put, part-size, part-keeps, left-end, step-refused, step-accepted, one-forgets}
 use borrow.Author.Needs.{needs}
 use native.Mathlib.Omega.{arith}
-use Rattle.image.proofs.turns.read_blocks.Statement.{statement}
-use Rattle.image.proofs.turns.read_blocks.Tie as tie
+use Rattle.turns.proofs.read_blocks.Statement.{statement}
+use Rattle.turns.proofs.read_blocks.Tie as tie
 
 abbrev Inv-loop : tie.InvT-loop
 Inv-loop forth back ewords dwords cwords key1 key2 rounds blocks k output₀ state₀ bytes₀ j₀ output state bytes j =

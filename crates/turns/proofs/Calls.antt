@@ -1,0 +1,45 @@
+-- A turn's own tests, and where none of them refuses. Assumes nothing.
+use mathlib.Core.Path.{_≡_, ap₂, _∙_}
+use mathlib.Core.Bool.{Bool, true, false, _&&_}
+use mathlib.Core.List.{List}
+use Prim.Native.Nat.{ℕ, _*_, _%_, _≤_}
+use native.Mathlib.Omega.{arith}
+use borrow.Author.Tests.{leb-true}
+use lib.Dec.{eqb, ltb, leb}
+use lib.ListN.{length}
+use Rattle.octets.specs.Octets.{over}
+use Rattle.header.specs.declared.Progress.{Progress}
+use Rattle.format.specs.Edition.{one}
+use Rattle.format.specs.Judge.{Keys, standing, ofEdition}
+use Rattle.turns.specs.Turn.{readBlocks, cut, handled, whole, blocksRead, turnUnder}
+use Rattle.turns.specs.declared.BlocksRead.{BlocksRead}
+use Rattle.turns.specs.declared.Stop.the-variants.{Asked, Lent, Room}
+
+module _ (n : Keys) (s : Progress) (given : List ℕ) (asked : ℕ) (out : List ℕ) where
+  pub turn-asked : (ltb 0 asked && leb asked 128) ≡ false → (whole s Asked, out) ≡ turnUnder n s given asked out
+  unfolding turnUnder
+  turn-asked e = rw e
+
+  module _ (e1 : (ltb 0 asked && leb asked 128) ≡ true) where
+    pub turn-lent : eqb (length given % 512) 0 ≡ false → (whole s Lent, out) ≡ turnUnder n s given asked out
+    unfolding turnUnder
+    turn-lent e2 = rw (e1, e2)
+
+    pub asked-most : asked ≤ 128
+    asked-most = leb-true asked 128 (second (ltb 0 asked) (leb asked 128) e1)
+      where
+        second : (t u : Bool) → (t && u) ≡ true → u ≡ true
+        second true u q = q
+        second false u q = let y : _≡_ {A = ℕ} 0 1 = cc in absurd (omega arith)
+
+    module _ (e2 : eqb (length given % 512) 0 ≡ true) (k : ℕ) (ek : k ≡ handled given asked) where
+      pub turn-room : ltb (length out) (k * 480) ≡ true → (whole s Room, out) ≡ turnUnder n s given asked out
+      unfolding turnUnder
+      turn-room e3 = let f : ltb (length out) (handled given asked * 480) ≡ true = rw (← ek) e3 in rw (e1, e2, f)
+
+      pub turn-read : ltb (length out) (k * 480) ≡ false → (t : BlocksRead) (o : List ℕ) → t ≡ blocksRead (readBlocks (ofEdition n one) (standing s) (cut k given))
+          → o ≡ over (readBlocks (ofEdition n one) (standing s) (cut k given) .out) out → (t, o) ≡ turnUnder n s given asked out
+      unfolding turnUnder
+      turn-read e3 t o et eo =
+          let f : ltb (length out) (handled given asked * 480) ≡ false = rw (← ek) e3 in
+          ap₂ (λ (x : BlocksRead) (y : List ℕ). (x, y)) et eo ∙ rw (e1, e2, f, ek)

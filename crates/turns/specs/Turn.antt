@@ -1,0 +1,98 @@
+-- A turn over blocks, until the first that is refused (docs/IMAGE.md). Assumes nothing: these are definitions.
+use Prim.Native.Nat.{ℕ, zero, suc, _+_, _*_, _/_, _%_, min}
+use mathlib.Core.Bool.{_&&_, not}
+use mathlib.Core.List.{List, [], _∷_, _++_}
+use lib.Dec.{eqb, ltb, leb}
+use lib.ListN.{length, take, drop}
+use Rattle.octets.specs.Octets.{choose, over}
+use Rattle.fips197.specs.Cipher.{standard}
+use Rattle.sp800_38b.specs.Cmac.{cmac}
+use Rattle.header.specs.Layout.{bodySize, blockSize, headOf}
+use Rattle.header.specs.Rules.{reasonNumber}
+use Rattle.header.specs.declared.Progress.{Progress}
+use Rattle.header.specs.declared.Verdict.{Verdict}
+use Rattle.header.specs.declared.Verdict.the-variants.{Accepted, Refused}
+use Rattle.format.specs.Edition.{one}
+use Rattle.format.specs.Judge.{Keys, Standing, standing, BlockReader, ofEdition, taken}
+use Rattle.format.specs.Lent.{usable}
+use Rattle.format.specs.declared.Rounds.{Rounds}
+use Rattle.turns.specs.declared.BlocksRead.{BlocksRead}
+use Rattle.turns.specs.declared.Stop.{Stop}
+use Rattle.turns.specs.declared.Stop.the-variants.{End, Asked, Lent, Room, At}
+
+-- how far the blocks were taken: where the reader stands after them, how many were accepted, the sum of their payload lengths,
+-- how it stopped, and the bytes handed out
+pub record Reading : Type 0 where
+  pub standing : Standing
+  pub accepted : ℕ
+  pub bytes : ℕ
+  pub stop : Stop
+  pub out : List ℕ
+
+-- a place counted from one block earlier
+abbrev pub later : Stop → Stop
+later (At place reason) = At (suc place) reason
+later End = End
+later Asked = Asked
+later Lent = Lent
+later Room = Room
+
+-- an accepted block comes before what was read after it; a refused one ends the turn and changes nothing
+abbrev pub onward : Verdict → Standing → (len : ℕ) (plain : List ℕ) → Reading → Reading
+onward Accepted s len plain t = record {
+  standing = t .standing;
+  accepted = suc (t .accepted);
+  bytes = len + t .bytes;
+  stop = later (t .stop);
+  out = plain ++ t .out;
+}
+onward (Refused reason) s len plain t = record { standing = s; accepted = 0; bytes = 0; stop = At 0 reason; out = [] }
+
+unfoldable pub readBlocks : BlockReader → Standing → List (List ℕ) → Reading
+readBlocks d s [] = record { standing = s; accepted = 0; bytes = 0; stop = End; out = [] }
+readBlocks d s (b ∷ bs) = onward (d .verdict s b) s (headOf b .len) (d .plain b) (readBlocks d (taken s b) bs)
+
+-- the first n blocks of what was lent
+unfoldable pub cut : ℕ → List ℕ → List (List ℕ)
+cut zero s = []
+cut (suc n) s = take blockSize s ∷ cut n (drop blockSize s)
+
+-- ---- a turn
+
+-- AES under the two schedules; they are usable where keys can have given them
+abbrev pub keysUnder : (ewords cwords : List ℕ) → Rounds → Keys
+keysUnder ewords cwords n = record { enc = standard ewords (n .enc); mac = cmac (standard cwords (n .chk)); usable = usable n }
+
+-- k: the smaller of the blocks lent and the number asked for
+abbrev pub handled : (lent : List ℕ) (asked : ℕ) → ℕ
+handled lent asked = min asked (length lent / blockSize)
+
+-- it reads edition 1
+abbrev pub readingBy : Keys → Progress → (lent : List ℕ) (asked : ℕ) → Reading
+readingBy k s lent asked = readBlocks (ofEdition k one) (standing s) (cut (handled lent asked) lent)
+
+abbrev pub blocksReadWith : Progress → (accepted bytes : ℕ) → Stop → BlocksRead
+blocksReadWith s accepted bytes stop = record { progress = s; accepted = accepted; bytes = bytes; stop = stop }
+
+abbrev pub blocksRead : Reading → BlocksRead
+blocksRead t = blocksReadWith (t .standing .progress) (t .accepted) (t .bytes) (t .stop)
+
+-- a turn that is refused as a whole
+abbrev pub whole : Progress → Stop → BlocksRead
+whole s why = blocksReadWith s 0 0 why
+
+-- the answer and the output: 5, 6, 4, in that order, and then the blocks
+unfoldable pub turnUnder : Keys → Progress → (lent : List ℕ) (asked : ℕ) (out : List ℕ) → BlocksRead × List ℕ
+turnUnder k s lent asked out =
+    choose (not (ltb 0 asked && leb asked 128)) (whole s Asked, out)
+    (choose (not (eqb (length lent % blockSize) 0)) (whole s Lent, out)
+    (choose (ltb (length out) (handled lent asked * bodySize)) (whole s Room, out)
+    (blocksRead (readingBy k s lent asked), over (readingBy k s lent asked .out) out)))
+
+-- the number of each way to stop (docs/REFUSALS.md)
+abbrev pub stopNumber : Stop → ℕ
+stopNumber End = 0
+stopNumber Asked = 5
+stopNumber Lent = 6
+stopNumber Room = 4
+stopNumber (At place reason) = reasonNumber reason
