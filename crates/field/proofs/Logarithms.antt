@@ -3,7 +3,7 @@
 use mathlib.Core.Path.{_≡_, refl, sym, ap, ap₂, _∙_}
 use mathlib.Core.Bool.{Bool, true, false, _&&_}
 use mathlib.Core.Logic.{⊎-elim}
-use Prim.Native.Nat.{ℕ, zero, suc, _+_, _-_, _/_, _%_, _≤_, _<_}
+use Prim.Native.Nat.{ℕ, zero, suc, _+_, _-_, _*_, _/_, _%_, _≤_, _<_}
 use native.Mathlib.Nat.{zero-add, suc-add, le-of-suc-le-suc, eq-or-lt-of-le}
 use native.Mathlib.Omega.{arith}
 use borrow.Author.Tests.{eq-eqb, ne-eqb, lt-ltb, le-ltb}
@@ -59,7 +59,7 @@ E-lt zero = omega arith
 E-lt (suc n) = product-lt 3 (E-lt n)
 
 -- the product of two powers
-E-sum : (m n : ℕ) → E m • E n ≡ E (m + n)
+pub E-sum : (m n : ℕ) → E m • E n ≡ E (m + n)
 unfolding E
 E-sum zero n = one-product (E n) (E-lt n) ∙ ap E (sym (zero-add n))
 E-sum (suc m) n = three-product (E m) (E n) (E-lt m) ∙ ap (λ (x : ℕ). x • 3) (E-sum m n) ∙ ap E (sym (suc-add m n))
@@ -86,12 +86,16 @@ unfolding eTable
 E-255 = sym (E-rule 255 (omega arith))
 
 -- 255 taken off leaves the power
-E-around : (n : ℕ) → 255 ≤ n → E (n - 255) ≡ E n
+pub E-around : (n : ℕ) → 255 ≤ n → E (n - 255) ≡ E n
 E-around n h =
     sym (one-product (E (n - 255)) (E-lt (n - 255)))
     ∙ ap (λ (x : ℕ). x • E (n - 255)) (sym E-255)
     ∙ E-sum 255 (n - 255)
     ∙ ap E (omega arith)
+
+pub E-turns : (k m : ℕ) → E (255 * k + m) ≡ E m
+E-turns zero m = ap E (zero-add m)
+E-turns (suc k) m = sym (E-around (255 * suc k + m) (omega arith)) ∙ ap E (omega arith) ∙ E-turns k m
 
 -- ---- table L
 
@@ -165,7 +169,7 @@ unfolding is-logarithm place
 L-rule zero h = eqb→eq (entry lTable 0) 0 (L-test 0 h) ∙ sym L-0
 L-rule (suc a) h = sym (L-of-E (place a h) (place-lt a h)) ∙ ap L (place-back a h)
 
-L-lt : (a : ℕ) → a < 256 → L a < 255
+pub L-lt : (a : ℕ) → a < 256 → L a < 255
 unfolding place
 L-lt zero h = omega (arith, L-0)
 L-lt (suc a) h = omega (arith, place-lt a h, L-rule (suc a) h)
