@@ -48,7 +48,6 @@ enum {
     DOCK_BLOCK_NUMBER = 8,        // turn: not the block expected, and the value is its number; writer: not below the count
     DOCK_COUNT_DIFFERS = 9,       // the count is not that of the first block accepted; the value is the count
     DOCK_RELEASE_DIFFERS = 10,    // the release is not that of the first block accepted; the value is the release
-    DOCK_NUMBER_PAST_COUNT = 11,  // the number is not below the count; the value is the number
     DOCK_PAYLOAD_LENGTH = 12,     // the payload length is wrong for its place; the value is the length
     DOCK_RESERVED_NOT_ZERO = 13,  // the two reserved bytes are not 0; the value is their number
     DOCK_CHECK_WRONG = 14,        // the check is wrong
@@ -163,17 +162,26 @@ dock_check_answer dock_check_close(dock_record record);
 
 // ---- Release images (docs/IMAGE.md)
 
-// A reader: the schedules of the encryption key and of the check key, the number of the block expected next, and count and release,
-// which the first block accepted fixes. Of fixed, 0 is no and any other value yes; calls answer 0 or 1 there.
+// The words and rounds of a key's schedule, zeros where a key was refused.
 typedef struct {
-    uint32_t encwords[60];
-    size_t encrounds;
-    uint32_t chkwords[60];
-    size_t chkrounds;
+    uint32_t words[60];
+    size_t rounds;
+} dock_key_schedule;
+
+// How far a reader has come: the number of the block expected next, which is the number of blocks accepted so far; and, where that is not
+// 0, the count and release of the image, which the first block accepted fixed.
+typedef struct {
     uint32_t next;
-    uint32_t fixed;
     uint32_t count;
     uint32_t release;
+} dock_progress;
+
+// A reader: the schedules of the encryption key and of the check key, and how far it has come. A caller may look at progress at any
+// time, and at count and release there where next is not 0; enc and chk hold key material and are for the calls alone.
+typedef struct {
+    dock_key_schedule enc;
+    dock_key_schedule chk;
+    dock_progress progress;
 } dock_reader;
 
 typedef struct {
@@ -182,7 +190,7 @@ typedef struct {
 } dock_read_start_answer;
 
 // What a turn did. number: 0, or 5, 6 or 4 where the whole turn was refused. reason: why the block at place (from 0) stopped the
-// turn, 7 to 16, or 0 where none did. value: what that block held where the reason is 7 to 13, else 0. accepted: the blocks
+// turn, 7 to 10 or 12 to 16, or 0 where none did. value: what that block held where the reason is 13 or below, else 0. accepted: the blocks
 // accepted. bytes: the sum of their payload lengths. reader: the reader for the next turn.
 typedef struct {
     uint32_t number;
@@ -207,13 +215,14 @@ dock_read_start_answer dock_read_start(const uint8_t *ekey, size_t ekey_length, 
 // Takes in lent blocks of 512 bytes each, as many as asked for at most, 1 to 128, up to the first that is refused. The k blocks to be
 // handled, the smaller of those lent and those asked for, want an output of 480 k bytes; no block lent wants none. The decrypted 480
 // bytes of block j of the turn, payload and zero fill, go to 480 j of the output.
-// The turn as a whole is refused by the first that applies of 5, 6, 4, with counts of 0 and the reader that was given. A block is
-// refused by the first that applies of 16, 14, 7, 8, 9, 10, 11, 12, 13, 15: the output from its place on and the reader are as the
-// block before it left them, so it may be fetched and offered again. A reader made by dock_read_start meets no 11.
+// The turn as a whole is refused by the first that applies of 5, 6, 4, with counts of 0 and the very reader that was given, whatever
+// numbers it holds. A block is refused by the first that applies of 16, 14, 7, 8, 9, 10, 12, 13, 15: the output from its place on and
+// the reader are as the block before it left them, so it may be fetched and offered again. 16 is given where next is not 0 and not
+// below count.
 dock_turn_answer dock_read_turn(dock_reader reader, const uint8_t *blocks, size_t blocks_length, size_t asked,
                                 uint8_t *output, size_t output_length);
 
-// 0 once the last block has been accepted, and 17 before. Only this 0 says that the release is here: not the size of a file, and not
+// 0 once the last block has been accepted: next is not 0 and is the count; 17 before. Only this 0 says that the release is here: not the size of a file, and not
 // a turn without a refusal.
 uint32_t dock_read_complete(dock_reader reader);
 

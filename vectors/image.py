@@ -417,7 +417,7 @@ def block_refusals(book):
     refused(book, image.blocks[0], 8, 0)
     for number in (3, 65535, LARGEST):
         refused(book, sealed(head_of(number, 3, 500, 100), filled(data(100))), 8, number)
-    book.group("each other refusal of a block but 11 and 16, with the value found", "document 01, refusals")
+    book.group("each other refusal of a block but 16, with the value found", "document 01, refusals")
     for count in (0, 65536, LARGEST):
         refused(book, sealed(head_of(2, count, 500, 100), filled(data(100))), 7, count)
     for count in (1, 2, 4, 65535):
@@ -668,8 +668,6 @@ def main(folder):
                 "layout of document 01; their IVs and bodies come from `openssl enc` (ECB of one block, CBC without "
                 "padding), their checks from `openssl mac` (CMAC). What a call answers to them, numbers, values and places, is stated "
                 "case by case in the script, by the rule that the table names.")
-    book.remark("Refusal 11 has no line: no start reaches it. A reader that has fixed a count and is not complete expects a "
-                "number below it, and one that has fixed none expects 0.")
     book.remark("The lines are one sequence: a reading goes over many lines, so no line may be left out alone. The first "
                 "ones ask before any start, so nothing that starts a reader may stand before them.")
     for part in (before_any_start, writer_sizes, writer_keys, writer_refusals, writer_orders, start_refusals, whole_images,

@@ -127,13 +127,13 @@ static bool seal(const key_pair *keys, uint32_t release, FILE *from, const char 
 
 // How a turn ended, for a person. Whether it was carried out to its end.
 static bool told(const dock_turn_answer *turn, uint32_t first) {
-    if (turn->accepted > 0) printf("blocks %" PRIu32 " to %" PRIu32 " accepted: %zu bytes\n", first, turn->reader.next - 1, turn->bytes);
+    if (turn->accepted > 0) printf("blocks %" PRIu32 " to %" PRIu32 " accepted: %zu bytes\n", first, turn->reader.progress.next - 1, turn->bytes);
     if (turn->number != DOCK_DONE) {
         printf("the turn from block %" PRIu32 " on was refused: refusal %" PRIu32 ", %s\n", first, turn->number, in_words(turn->number));
         return false;
     }
     if (turn->reason == 0) return true;
-    printf("the block offered as number %" PRIu32 " was refused: ", turn->reader.next);
+    printf("the block offered as number %" PRIu32 " was refused: ", turn->reader.progress.next);
     printf("refusal %" PRIu32 ", %s", turn->reason, in_words(turn->reason));
     if (turn->reason >= DOCK_COUNT_RANGE && turn->reason <= DOCK_RESERVED_NOT_ZERO) printf(" (found: %" PRIu32 ")", turn->value);
     printf("\n");
@@ -148,7 +148,7 @@ static dock_reader read_turns(dock_reader reader, FILE *from, FILE *to) {
         size_t lent = fread(blocks, 1, sizeof blocks, from);
         if (lent == 0) break;
         dock_turn_answer turn = dock_read_turn(reader, blocks, lent, DOCK_MOST_ASKED, output, sizeof output);
-        going = told(&turn, reader.next) && fwrite(output, 1, turn.bytes, to) == turn.bytes;
+        going = told(&turn, reader.progress.next) && fwrite(output, 1, turn.bytes, to) == turn.bytes;
         reader = turn.reader;
         wipe(&turn, sizeof turn);
     }
@@ -164,7 +164,7 @@ static bool read_image(const key_pair *keys, FILE *from, FILE *to) {
     }
     dock_reader reader = read_turns(start.reader, from, to);
     uint32_t answer = dock_read_complete(reader);
-    if (answer == DOCK_DONE) printf("the image is complete: release %" PRIu32 ", %" PRIu32 " blocks\n", reader.release, reader.count);
+    if (answer == DOCK_DONE) printf("the image is complete: release %" PRIu32 ", %" PRIu32 " blocks\n", reader.progress.release, reader.progress.count);
     else printf("the image is not complete: %" PRIu32 ", %s. Install nothing of it\n", answer, in_words(answer));
     wipe(&start, sizeof start);
     wipe(&reader, sizeof reader);

@@ -60,7 +60,7 @@ pub struct Stop {
     pub place: usize,
     /// Why it was refused.
     pub reason: Refusal,
-    /// What it held, where the reason is one of 7 to 13.
+    /// What it held, where the reason is 13 or below.
     pub value: Option<u32>,
 }
 
@@ -82,7 +82,7 @@ impl Reader {
     /// Takes in lent blocks of 512 bytes, as many as asked for at most, 1 to 128, up to the first that is refused.
     ///
     /// The output has 480 bytes for each block to be handled; the decrypted 480 bytes of block j of the turn go to 480 j. Refused as a
-    /// whole by the first that applies of 5, 6, 4; a block is refused by the first of 16, 14, 7, 8, 9, 10, 11, 12, 13, 15.
+    /// whole by the first that applies of 5, 6, 4; a block is refused by the first of 16, 14, 7, 8, 9, 10, 12, 13, 15.
     pub fn turn(
         &mut self,
         blocks: &[u8],
@@ -113,17 +113,17 @@ impl Reader {
 
     /// The number of the block expected next.
     pub fn expected(&self) -> u32 {
-        self.0.next
+        self.0.progress.next
     }
 
     /// The count of blocks, once a block has been accepted.
     pub fn count(&self) -> Option<u32> {
-        Some(self.0.count).filter(|_| self.0.fixed != 0)
+        Some(self.0.progress.count).filter(|_| self.expected() != 0)
     }
 
     /// The release, once a block has been accepted.
     pub fn release(&self) -> Option<u32> {
-        Some(self.0.release).filter(|_| self.0.fixed != 0)
+        Some(self.0.progress.release).filter(|_| self.expected() != 0)
     }
 }
 

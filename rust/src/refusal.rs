@@ -26,8 +26,6 @@ pub enum Refusal {
     CountDiffers,
     /// 10: the release is not that of the first block accepted.
     ReleaseDiffers,
-    /// 11: the number is not below the count. No reader that was started with keys gives it.
-    NumberPastCount,
     /// 12: the payload length is wrong for its place.
     PayloadLength,
     /// 13: the two reserved bytes are not 0.
@@ -50,27 +48,34 @@ pub enum Refusal {
 
 use Refusal::*;
 
-/// In the order of their numbers, from 1 on.
-const NAMED: [(Refusal, &str); 19] = [
-    (KeyLength, "a key is not 16, 24 or 32 bytes"),
-    (IvLength, "the IV has a wrong length for the mode"),
-    (InputLength, "the input is not a multiple of 16 bytes"),
-    (OutputShort, "the output is too short"),
-    (AskedNumber, "the number asked for is not 1 to 128"),
-    (LentLength, "the bytes lent are not whole blocks of 512"),
-    (CountRange, "the count is not 1 to 65,535"),
-    (BlockNumber, "the number of the block is wrong"),
-    (CountDiffers, "the count is not that of the first block"),
-    (ReleaseDiffers, "the release is not that of the first block"),
-    (NumberPastCount, "the number is not below the count"),
-    (PayloadLength, "the payload length is wrong for its place"),
-    (ReservedNotZero, "the reserved bytes are not 0"),
-    (CheckWrong, "the check is wrong"),
-    (FillNotZero, "the fill is not zero"),
-    (AfterLast, "the block comes after the last"),
-    (NotComplete, "the last block has not been accepted"),
-    (WrapLength, "the data has a wrong length"),
-    (InitialValue, "the data is no wrapping under this key"),
+/// Each with its number and what it says. No call answers 11.
+const NAMED: [(u32, Refusal, &str); 18] = [
+    (1, KeyLength, "a key is not 16, 24 or 32 bytes"),
+    (2, IvLength, "the IV has a wrong length for the mode"),
+    (3, InputLength, "the input is not a multiple of 16 bytes"),
+    (4, OutputShort, "the output is too short"),
+    (5, AskedNumber, "the number asked for is not 1 to 128"),
+    (6, LentLength, "the bytes lent are not whole blocks of 512"),
+    (7, CountRange, "the count is not 1 to 65,535"),
+    (8, BlockNumber, "the number of the block is wrong"),
+    (9, CountDiffers, "the count is not that of the first block"),
+    (
+        10,
+        ReleaseDiffers,
+        "the release is not that of the first block",
+    ),
+    (
+        12,
+        PayloadLength,
+        "the payload length is wrong for its place",
+    ),
+    (13, ReservedNotZero, "the reserved bytes are not 0"),
+    (14, CheckWrong, "the check is wrong"),
+    (15, FillNotZero, "the fill is not zero"),
+    (16, AfterLast, "the block comes after the last"),
+    (17, NotComplete, "the last block has not been accepted"),
+    (18, WrapLength, "the data has a wrong length"),
+    (19, InitialValue, "the data is no wrapping under this key"),
 ];
 
 impl Refusal {
@@ -78,10 +83,10 @@ impl Refusal {
     pub fn number(self) -> u32 {
         match self {
             Other(number) => number,
-            named => (1..)
-                .zip(NAMED)
-                .find(|(_, (refusal, _))| *refusal == named)
-                .map_or(0, |(number, _)| number),
+            named => NAMED
+                .iter()
+                .find(|(_, refusal, _)| *refusal == named)
+                .map_or(0, |(number, _, _)| *number),
         }
     }
 
@@ -95,8 +100,8 @@ impl Refusal {
         if number == 0 {
             return None;
         }
-        let named = (1..).zip(NAMED).find(|(n, _)| *n == number);
-        Some(named.map_or(Other(number), |(_, (refusal, _))| refusal))
+        let named = NAMED.iter().find(|(n, _, _)| *n == number);
+        Some(named.map_or(Other(number), |(_, refusal, _)| *refusal))
     }
 
     /// What a call answered.
@@ -110,8 +115,8 @@ impl Refusal {
 
 impl fmt::Display for Refusal {
     fn fmt(&self, f: &mut fmt::Formatter<'_>) -> fmt::Result {
-        let words = NAMED.iter().find(|(refusal, _)| refusal == self);
-        let words = words.map_or("a number without a name", |(_, words)| words);
+        let words = NAMED.iter().find(|(_, refusal, _)| refusal == self);
+        let words = words.map_or("a number without a name", |(_, _, words)| words);
         write!(f, "refusal {}: {words}", self.number())
     }
 }

@@ -59,15 +59,25 @@ pub struct StartAnswer {
 
 #[repr(C)]
 #[derive(Clone, Copy)]
-pub struct Reader {
-    pub encwords: [u32; 60],
-    pub encrounds: usize,
-    pub chkwords: [u32; 60],
-    pub chkrounds: usize,
+pub struct KeySchedule {
+    pub words: [u32; 60],
+    pub rounds: usize,
+}
+
+#[repr(C)]
+#[derive(Clone, Copy)]
+pub struct Progress {
     pub next: u32,
-    pub fixed: u32,
     pub count: u32,
     pub release: u32,
+}
+
+#[repr(C)]
+#[derive(Clone, Copy)]
+pub struct Reader {
+    pub enc: KeySchedule,
+    pub chk: KeySchedule,
+    pub progress: Progress,
 }
 
 #[repr(C)]
@@ -99,16 +109,22 @@ impl Record {
     };
 }
 
+impl KeySchedule {
+    const ZERO: KeySchedule = KeySchedule {
+        words: [0; 60],
+        rounds: 0,
+    };
+}
+
 impl Reader {
     pub const ZERO: Reader = Reader {
-        encwords: [0; 60],
-        encrounds: 0,
-        chkwords: [0; 60],
-        chkrounds: 0,
-        next: 0,
-        fixed: 0,
-        count: 0,
-        release: 0,
+        enc: KeySchedule::ZERO,
+        chk: KeySchedule::ZERO,
+        progress: Progress {
+            next: 0,
+            count: 0,
+            release: 0,
+        },
     };
 }
 

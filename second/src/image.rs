@@ -310,8 +310,6 @@ impl Reader {
             Err(Stop::holding(Refusal::CountDiffers, count))
         } else if release != fixed.release {
             Err(Stop::holding(Refusal::ReleaseDiffers, release))
-        } else if number >= count {
-            Err(Stop::holding(Refusal::NumberPastCount, number))
         } else if !length_fits(number, count, usize::from(length)) {
             Err(Stop::holding(Refusal::PayloadLength, length))
         } else if reserved != 0 {

@@ -12,7 +12,6 @@ pub enum Refusal {
     BlockNumber = 8,
     CountDiffers = 9,
     ReleaseDiffers = 10,
-    NumberPastCount = 11,
     PayloadLength = 12,
     ReservedNotZero = 13,
     CheckWrong = 14,

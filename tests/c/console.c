@@ -12,9 +12,10 @@
 
 enum { LONGEST = 65536, MOST_WORDS = 8 };
 
-// These have no bytes between their fields, so they can be compared whole.
+// These have no bytes between their fields, so they can be compared whole, a reader but for the bytes behind its last field.
+enum { READER_BYTES = 2 * (60 * 4 + 8) + 3 * 4 };
 _Static_assert(sizeof(dock_record) == 60 * 4 + 8 + 16 + 16 + 8, "the layout of a record");
-_Static_assert(sizeof(dock_reader) == 2 * (60 * 4 + 8) + 4 * 4, "the layout of a reader");
+_Static_assert(offsetof(dock_reader, progress.release) + 4 == READER_BYTES, "the layout of a reader");
 
 static const dock_record zero_record;
 static const dock_reader zero_reader;
@@ -195,7 +196,7 @@ static bool read_start(const form *f, const word *w) {
     if (!ekey || !ckey) return false;
     dock_read_start_answer answer = dock_read_start(ekey->bytes, ekey->length, ckey->bytes, ckey->length);
     reader = answer.reader;
-    expect(answer.number == 0 || memcmp(&reader, &zero_reader, sizeof reader) == 0, "the reader of a refused start");
+    expect(answer.number == 0 || memcmp(&reader, &zero_reader, READER_BYTES) == 0, "the reader of a refused start");
     put_number(answer.number);
     return true;
 }
@@ -208,11 +209,11 @@ static bool holds_value(uint32_t reason) {
 static void look_at(const dock_turn_answer *turn, const dock_reader *before) {
     if (turn->number != 0) {
         expect(turn->reason == 0 && turn->accepted == 0 && turn->bytes == 0, "counts of a turn that was refused as a whole");
-        expect(memcmp(&turn->reader, before, sizeof *before) == 0, "the reader of a turn that was refused as a whole");
+        expect(memcmp(&turn->reader, before, READER_BYTES) == 0, "the reader of a turn that was refused as a whole");
     }
     expect(turn->reason != 0 || turn->place == 0, "a place where no block was refused");
     expect(holds_value(turn->reason) || turn->value == 0, "a value where the reason holds none");
-    expect(turn->reader.next - before->next == turn->accepted, "the blocks accepted are the advance of the reader");
+    expect(turn->reader.progress.next - before->progress.next == turn->accepted, "the blocks accepted are the advance of the reader");
 }
 
 static void put_stop(const dock_turn_answer *turn) {

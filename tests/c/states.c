@@ -84,8 +84,16 @@ static void seal(const header *h, uint8_t *block) {
     memcpy(block + 496, dock_check(ckey, sizeof ckey, block, 496).check, 16);
 }
 
-static bool is_complete(const dock_reader *reader) {
-    return reader->fixed != 0 && reader->next == reader->count;
+static bool is_complete(dock_progress progress) {
+    return progress.next != 0 && progress.next == progress.count;
+}
+
+static bool is_closed(dock_progress progress) {
+    return progress.next != 0 && progress.next >= progress.count;
+}
+
+static bool same_reader(const dock_reader *a, const dock_reader *b) {
+    return memcmp(a, b, offsetof(dock_reader, progress)) == 0 && memcmp(&a->progress, &b->progress, sizeof a->progress) == 0;
 }
 
 // A reader with a schedule that no key made accepts nothing.
@@ -95,57 +103,58 @@ static void one_reader(const uint8_t *block) {
     fill(&reader, sizeof reader);
     fill(output, sizeof output);
     memcpy(before, output, sizeof output);
-    reader.encrounds = some_number();
-    reader.chkrounds = usable(reader.encrounds) ? 11 : some_number();
-    reader.next = (uint32_t)some_number();
-    reader.count = (uint32_t)some_number();
-    reader.fixed = (uint32_t)(drawn() % 3);
+    reader.enc.rounds = some_number();
+    reader.chk.rounds = usable(reader.enc.rounds) ? 11 : some_number();
+    reader.progress.next = (uint32_t)some_number();
+    reader.progress.count = (uint32_t)some_number();
     dock_turn_answer turn = dock_read_turn(reader, block, 512, 128, output, sizeof output);
-    reader.fixed = reader.fixed != 0;
     expect(turn.number == 0 && turn.accepted == 0 && turn.bytes == 0, "a reader without keys accepts a block");
-    expect(turn.reason == (is_complete(&reader) ? 16 : 14) && turn.value == 0 && turn.place == 0, "why a reader without keys refuses");
-    expect(memcmp(&turn.reader, &reader, sizeof reader) == 0, "a refused block changes a reader");
+    expect(turn.reason == (is_closed(reader.progress) ? 16 : 14) && turn.value == 0 && turn.place == 0, "why a reader without keys refuses");
+    expect(same_reader(&turn.reader, &reader), "a refused block changes a reader");
     expect(memcmp(output, before, sizeof output) == 0, "a refused block changes the output");
-    expect(dock_read_complete(reader) == (is_complete(&reader) ? 0 : 17), "whether a reader is complete");
+    expect(dock_read_complete(reader) == (is_complete(reader.progress) ? 0 : 17), "whether a reader is complete");
+    turn = dock_read_turn(reader, block, 512, 0, output, sizeof output);
+    expect(turn.number == 5 && same_reader(&turn.reader, &reader), "a turn refused as a whole changes a reader");
 }
 
 typedef struct {
-    uint32_t next, fixed, count, release;
+    dock_progress progress;
     header block;
     uint32_t reason, value;  // 0 where the block is accepted
 } odd_case;
 
-// Readers with keys that have come where no reading comes, 11 among their answers.
+// Readers with keys that have come where no reading comes. Where next is not 0 and not below the count, no block may follow.
 static const odd_case cases[] = {
-    {7, 1, 5, 9, {7, 5, 9, 480, 0}, 11, 7},
-    {7, 1, 5, 9, {6, 5, 9, 480, 0}, 8, 6},
-    {7, 1, 5, 9, {7, 6, 9, 480, 0}, 9, 6},
-    {7, 1, 5, 9, {7, 5, 8, 480, 0}, 10, 8},
-    {UINT32_MAX, 0, 0, 0, {UINT32_MAX, 65535, 9, 480, 0}, 11, UINT32_MAX},
-    {65535, 0, 1, 1, {65535, 65535, 9, 480, 0}, 11, 65535},
-    {65536, 1, 65536, 9, {65536, 65536, 9, 480, 0}, 16, 0},
-    {5, 1, 5, 9, {5, 5, 9, 480, 0}, 16, 0},
-    {0, 1, 0, 0, {0, 1, 0, 480, 0}, 16, 0},
-    {2, 1, 65536, 9, {2, 65536, 9, 480, 0}, 7, 65536},
-    {3, 0, 77, 78, {3, 10, 9, 480, 0}, 0, 0},
-    {0, 2, 1, 9, {0, 1, 9, 0, 0}, 0, 0},
-    {65534, 0xffffffff, 65535, 9, {65534, 65535, 9, 480, 0}, 0, 0},
+    {{7, 5, 9}, {7, 5, 9, 480, 0}, 16, 0},
+    {{7, 5, 9}, {6, 5, 9, 480, 0}, 16, 0},
+    {{7, 5, 9}, {7, 8, 9, 480, 0}, 16, 0},
+    {{UINT32_MAX, 0, 0}, {UINT32_MAX, 65535, 9, 480, 0}, 16, 0},
+    {{65535, 1, 1}, {65535, 65535, 9, 480, 0}, 16, 0},
+    {{65536, 65536, 9}, {65536, 65536, 9, 480, 0}, 16, 0},
+    {{5, 5, 9}, {5, 5, 9, 480, 0}, 16, 0},
+    {{1, 0, 0}, {0, 1, 0, 480, 0}, 16, 0},
+    {{0, 0, 0}, {1, 2, 9, 480, 0}, 8, 1},
+    {{0, 77, 78}, {0, 0, 9, 480, 0}, 7, 0},
+    {{2, 65536, 9}, {2, 65536, 9, 480, 0}, 7, 65536},
+    {{UINT32_MAX - 1, UINT32_MAX, 9}, {UINT32_MAX - 1, 65535, 9, 480, 0}, 9, 65535},
+    {{4, 5, 9}, {4, 6, 9, 480, 0}, 9, 6},
+    {{4, 5, 9}, {4, 5, 8, 480, 0}, 10, 8},
+    {{0, 1, 9}, {0, 1, 8, 0, 0}, 0, 0},
+    {{0, 77, 78}, {0, 10, 9, 480, 0}, 0, 0},
+    {{4, 5, 9}, {4, 5, 9, 480, 0}, 0, 0},
+    {{65534, 65535, 9}, {65534, 65535, 9, 480, 0}, 0, 0},
 };
 
 static void one_case(const odd_case *c) {
     uint8_t block[512], output[480];
     dock_reader reader = dock_read_start(ekey, sizeof ekey, ckey, sizeof ckey).reader;
-    reader.next = c->next;
-    reader.fixed = c->fixed;
-    reader.count = c->count;
-    reader.release = c->release;
+    reader.progress = c->progress;
     seal(&c->block, block);
     dock_turn_answer turn = dock_read_turn(reader, block, sizeof block, 1, output, sizeof output);
     expect(turn.number == 0 && turn.reason == c->reason && turn.value == c->value, "the answer of a reader that has come elsewhere");
-    expect(turn.accepted == (c->reason == 0) && turn.reader.next - c->next == turn.accepted, "the advance of such a reader");
-    bool same = turn.reader.fixed == (c->fixed != 0) && turn.reader.count == c->count && turn.reader.release == c->release;
-    bool taken = turn.reader.fixed == 1 && turn.reader.count == c->block.count && turn.reader.release == c->block.release;
-    expect(c->reason == 0 ? taken : same, "what such a reader has fixed");
+    expect(turn.accepted == (c->reason == 0), "whether such a reader accepts");
+    if (c->reason == 0) reader.progress = (dock_progress){c->progress.next + 1, c->block.count, c->block.release};
+    expect(same_reader(&turn.reader, &reader), "where such a reader stands");
 }
 
 int main(void) {

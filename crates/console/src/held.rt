@@ -28,7 +28,6 @@ impl Held {
                 chk: no_key(),
                 progress: Progress {
                     next: 0,
-                    fixed: false,
                     count: 0,
                     release: 0,
                 },

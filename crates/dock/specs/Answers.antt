@@ -1,10 +1,7 @@
--- The answers as C has them: numbers in place of enums, and a reader's state flat. Assumes nothing: these are definitions.
+-- The answers as C has them: numbers in place of enums. Assumes nothing: these are definitions.
 use Prim.Native.Nat.{ℕ}
-use mathlib.Core.Bool.{Bool, not}
 use mathlib.Core.List.{List}
-use lib.Dec.{eqb}
 use lib.ListN.{getD}
-use Rattle.octets.specs.Octets.{choose}
 use Rattle.schedule.specs.Schedule.{keyNumber}
 use Rattle.schedule.specs.declared.Expanded.{Expanded}
 use Rattle.cipher.specs.declared.Ciphered.{Ciphered}
@@ -15,7 +12,6 @@ use Rattle.cmac.specs.declared.Checked.{Checked}
 use Rattle.cmac.specs.declared.Started.{Started}
 use Rattle.header.specs.Rules.{reasonNumber, reasonValue}
 use Rattle.turns.specs.Turn.{stopNumber}
-use Rattle.image.specs.declared.Reader.{Reader}
 use Rattle.image.specs.declared.ReadStarted.{ReadStarted}
 use Rattle.turns.specs.declared.Stop.{Stop}
 use Rattle.turns.specs.declared.Stop.the-variants.{End, Asked, Lent, Room, At}
@@ -25,7 +21,6 @@ use Rattle.dock.specs.declared.BlockAnswer.{BlockAnswer}
 use Rattle.dock.specs.declared.ChainAnswer.{ChainAnswer}
 use Rattle.dock.specs.declared.CheckAnswer.{CheckAnswer}
 use Rattle.dock.specs.declared.StartAnswer.{StartAnswer}
-use Rattle.dock.specs.declared.ReaderState.{ReaderState}
 use Rattle.dock.specs.declared.ReadStartAnswer.{ReadStartAnswer}
 use Rattle.dock.specs.declared.TurnAnswer.{TurnAnswer}
 use Rattle.dock.specs.declared.numbers.Told.{Told}
@@ -58,37 +53,10 @@ startAnswer s = record { number = keyNumber (s .answer); «record» = s .«recor
 abbrev pub closeAnswer : List ℕ → CheckAnswer
 closeAnswer c = record { number = 0; check = c }
 
--- ---- a reader's state
-
--- yes and no as they are made; read back, every number but 0 is yes
-abbrev pub flagOf : Bool → ℕ
-flagOf b = choose b 1 0
-
--- the reader that a state stands for
-abbrev pub readerOf : ReaderState → Reader
-readerOf s = record {
-  enc = record { words = s .encwords; rounds = s .encrounds };
-  chk = record { words = s .chkwords; rounds = s .chkrounds };
-  progress = record { next = s .next; fixed = not (eqb (s .fixed) 0); count = s .count; release = s .release };
-}
-
--- the state that stands for a reader
-abbrev pub stateOf : Reader → ReaderState
-stateOf r = record {
-  encwords = r .enc .words;
-  encrounds = r .enc .rounds;
-  chkwords = r .chk .words;
-  chkrounds = r .chk .rounds;
-  next = r .progress .next;
-  fixed = flagOf (r .progress .fixed);
-  count = r .progress .count;
-  release = r .progress .release;
-}
+-- ---- a reader, and a turn
 
 abbrev pub readStartAnswer : ReadStarted → ReadStartAnswer
-readStartAnswer s = record { number = keyNumber (s .answer); reader = stateOf (s .reader) }
-
--- ---- a turn
+readStartAnswer s = record { number = keyNumber (s .answer); reader = s .reader }
 
 -- the value that a refusal holds, 0 where it holds none
 abbrev pub valueHeld : List ℕ → ℕ
@@ -114,5 +82,5 @@ turnAnswer t = record {
   place = toldOf (t .stop) .place;
   accepted = t .accepted;
   bytes = t .bytes;
-  reader = stateOf (t .reader);
+  reader = t .reader;
 }

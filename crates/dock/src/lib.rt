@@ -1,13 +1,11 @@
 // What C links: the calls on slices and numbers, with the refusals' numbers in place of enums, and structs by value but for the
 // record of a running check, which is lent to be fed.
 mod numbers;
-mod states;
 
 use crate::numbers::how_stopped;
-use crate::states::reader_of;
-use crate::states::state_of;
 use cipher::Ciphered;
 use cmac::Record;
+use image::Reader;
 use image::Turn;
 use schedule::KeySchedule;
 use sp800_38a::Operation;
@@ -21,7 +19,7 @@ ghost use Rattle.modes.specs.Calls.{modeNumber, modeAnswer};
 ghost use Rattle.cmac.specs.Calls.{checkOf, startOf, fedWith, closeOf};
 ghost use Rattle.image.specs.Calls as image;
 ghost use Rattle.wrap.specs.Calls.{wrapNumber, wrapAnswer, wrapOutput, unwrapAnswer, unwrapOutput};
-ghost use Rattle.dock.specs.Answers.{scheduleAnswer, blockAnswer, chainAnswer, modeApplied, afterMode, checkAnswer, startAnswer, closeAnswer, readerOf, readStartAnswer, turnAnswer};
+ghost use Rattle.dock.specs.Answers.{scheduleAnswer, blockAnswer, chainAnswer, modeApplied, afterMode, checkAnswer, startAnswer, closeAnswer, readStartAnswer, turnAnswer};
 
 // Sixteen bytes by value: C passes no array so.
 #[repr(C)]
@@ -62,24 +60,10 @@ pub struct StartAnswer {
     pub record: Record,
 }
 
-// A reader, flat: its two schedules, and how far it has come. Of `fixed`, 0 is no and every other value is yes; the calls give
-// back 0 or 1.
-#[repr(C)]
-pub struct ReaderState {
-    pub encwords: [u32; 60],
-    pub encrounds: usize,
-    pub chkwords: [u32; 60],
-    pub chkrounds: usize,
-    pub next: u32,
-    pub fixed: u32,
-    pub count: u32,
-    pub release: u32,
-}
-
 #[repr(C)]
 pub struct ReadStartAnswer {
     pub number: u32,
-    pub reader: ReaderState,
+    pub reader: Reader,
 }
 
 // What a turn did. `number` is that of a refusal of the whole turn; a block that stopped it has its place and reason, and the
@@ -92,7 +76,7 @@ pub struct TurnAnswer {
     pub place: usize,
     pub accepted: usize,
     pub bytes: usize,
-    pub reader: ReaderState,
+    pub reader: Reader,
 }
 
 #[no_mangle]
@@ -278,29 +262,29 @@ pub extern "C" fn dock_read_start(ekey: &[u8], ckey: &[u8]) -> ReadStartAnswer
     let reader = s.reader;
     ReadStartAnswer {
         number: answer.number(),
-        reader: state_of(reader),
+        reader,
     }
 }
 
 #[no_mangle]
 pub extern "C" fn dock_read_turn(
-    reader: ReaderState,
+    reader: Reader,
     blocks: &[u8],
     asked: usize,
     output: &mut [u8],
 ) -> TurnAnswer
-    ensures answer { λ r. ⌜ r ≡ turnAnswer (image.turnOf (readerOf reader) (now (blocks .entry)) asked (now (output .entry)) .0) ⌝ }
-    ensures written { λ _. ⌜ now (output .exit) ≡ image.turnOf (readerOf reader) (now (blocks .entry)) asked (now (output .entry)) .1 ⌝ }
+    ensures answer { λ r. ⌜ r ≡ turnAnswer (image.turnOf reader (now (blocks .entry)) asked (now (output .entry)) .0) ⌝ }
+    ensures written { λ _. ⌜ now (output .exit) ≡ image.turnOf reader (now (blocks .entry)) asked (now (output .entry)) .1 ⌝ }
 {
-    let t = image::read_turn(reader_of(reader), blocks, asked, output);
+    let t = image::read_turn(reader, blocks, asked, output);
     turn_answer(t)
 }
 
 #[no_mangle]
-pub extern "C" fn dock_read_complete(reader: ReaderState) -> u32
-    ensures { λ r. ⌜ r ≡ image.completionNumber (image.completionOf (readerOf reader)) ⌝ }
+pub extern "C" fn dock_read_complete(reader: Reader) -> u32
+    ensures { λ r. ⌜ r ≡ image.completionNumber (image.completionOf reader) ⌝ }
 {
-    let answer = image::read_complete(reader_of(reader));
+    let answer = image::read_complete(reader);
     answer.number()
 }
 
@@ -374,6 +358,6 @@ fn turn_answer(t: Turn) -> TurnAnswer
         place: told.place,
         accepted: t.accepted,
         bytes: t.bytes,
-        reader: state_of(reader),
+        reader,
     }
 }

@@ -25,7 +25,7 @@ use Rattle.sp800_38a.proofs.Same.{moded-same}
 use Rattle.sp800_38b.specs.Cmac.{key1, key2, cmac, cmacBy}
 use Rattle.sp800_38b.proofs.Same.{cmac-same, cmac-by}
 use Rattle.header.specs.Layout.{headBytes}
-use Rattle.header.specs.Rules.{firstOf, done}
+use Rattle.header.specs.Rules.{firstOf, closed}
 use Rattle.header.specs.declared.Head.{Head}
 use Rattle.header.specs.declared.Reason.the-variants.{AfterLast, CheckWrong}
 use Rattle.header.specs.declared.Verdict.the-variants.{Accepted, Refused}
@@ -125,7 +125,7 @@ module _ (t t' : List ℕ) (pt : t ≡ forwardTable) (pi : t' ≡ inverseTable) 
         both false y q = let z : _≡_ {A = ℕ} 0 1 = cc in absurd (omega arith)
 
     -- both refuse every block where no keys gave the schedules
-    refused : (k : Keys) → k .usable ≡ false → judge k ed s b ≡ choose (done (s .progress)) (Refused AfterLast) (Refused CheckWrong)
+    refused : (k : Keys) → k .usable ≡ false → judge k ed s b ≡ choose (closed (s .progress)) (Refused AfterLast) (Refused CheckWrong)
     unfolding judge firstOf
     refused k e = rw e
 

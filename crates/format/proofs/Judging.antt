@@ -4,8 +4,8 @@ use mathlib.Core.Bool.{Bool, true, false, _&&_, not}
 use mathlib.Core.List.{List, [], _∷_, _++_}
 use Prim.Native.Nat.{ℕ, _<_}
 use native.Mathlib.Omega.{arith}
-use borrow.Author.Tests.{eqb-true, eq-eqb, ltb-true, leb-true, not-false}
-use lib.Dec.{ltb, leb}
+use borrow.Author.Tests.{eqb-true, eq-eqb, leb-true, not-false}
+use lib.Dec.{eqb, ltb, leb}
 use lib.ListN.{length, take, drop, length-drop}
 use lib.Seq.{take-all}
 use Rattle.octets.specs.Octets.{same}
@@ -13,14 +13,14 @@ use Rattle.blocks.specs.Blocks.{blockAt}
 use Rattle.blocks.proofs.Laws.{block-at}
 use Rattle.schedule.specs.Schedule.{roundCount}
 use Rattle.header.specs.Layout.{headOf}
-use Rattle.header.specs.Rules.{firstOf, done, countFits, headTests}
+use Rattle.header.specs.Rules.{firstOf, closed, countFits, headTests}
 use Rattle.header.specs.declared.Head.{Head}
 use Rattle.header.specs.declared.Reason.{Reason}
 use Rattle.header.specs.declared.Reason.the-variants.{AfterLast, CheckWrong, FillNotZero}
 use Rattle.header.specs.declared.Verdict.{Verdict}
 use Rattle.header.specs.declared.Verdict.the-variants.{Accepted, Refused}
 use Rattle.header.proofs.Order.{hit, miss, through, unless, after-tests, all-false}
-use Rattle.header.proofs.Laws.{head-of-first}
+use Rattle.header.proofs.Laws.{head-of-first, number-below}
 use Rattle.format.specs.Edition.{Edition, one}
 use Rattle.format.specs.Sealed.{Mac, checks, zeroAfter, fillZero}
 use Rattle.format.specs.Judge.{Keys, Standing, standing, tests, judge}
@@ -80,21 +80,21 @@ module _ (k : Keys) (ed : Edition) (s : Standing) (b : List ℕ) where
   checked : Bool
   checked = k .usable && checks (k .mac) (ed .tail (s .last)) b
 
-  pub judged-last : done (s .progress) ≡ true → Refused AfterLast ≡ judge k ed s b
+  pub judged-last : closed (s .progress) ≡ true → Refused AfterLast ≡ judge k ed s b
   unfolding judge
-  judged-last e = hit (done (s .progress)) AfterLast _ e
+  judged-last e = hit (closed (s .progress)) AfterLast _ e
 
-  module _ (e1 : done (s .progress) ≡ false) where
+  module _ (e1 : closed (s .progress) ≡ false) where
     pub judged-check : (k .usable && checks (k .mac) (ed .tail (s .last)) b) ≡ false → Refused CheckWrong ≡ judge k ed s b
     unfolding judge
-    judged-check e2 = miss (done (s .progress)) AfterLast _ (Refused CheckWrong) e1 (hit (not (k .usable && checks (k .mac) (ed .tail (s .last)) b)) CheckWrong _ (ap not e2))
+    judged-check e2 = miss (closed (s .progress)) AfterLast _ (Refused CheckWrong) e1 (hit (not (k .usable && checks (k .mac) (ed .tail (s .last)) b)) CheckWrong _ (ap not e2))
 
     module _ (e2 : (k .usable && checks (k .mac) (ed .tail (s .last)) b) ≡ true) where
       -- the header's tests, and then the fill's
       judged-rest : judge k ed s b ≡ unless (firstOf (headTests (ed .mark) (s .progress) (headOf b))) (firstOf fill)
       unfolding judge rest fill checked
       judged-rest =
-          sym (miss (done (s .progress)) AfterLast _ (firstOf rest) e1 (miss (not checked) CheckWrong rest (firstOf rest) (ap not e2) refl))
+          sym (miss (closed (s .progress)) AfterLast _ (firstOf rest) e1 (miss (not checked) CheckWrong rest (firstOf rest) (ap not e2) refl))
           ∙ after-tests (headTests (ed .mark) (s .progress) (headOf b)) fill
 
       -- a right check is a block's, so the header read is the block's own, and the fill's test is the one asked
@@ -136,12 +136,11 @@ module _ (k : Keys) (ed : Edition) (s : Standing) (b : List ℕ) where
   pub accepted-next : judge k ed s b ≡ Accepted → s .progress .next < 65535
   unfolding judge headTests countFits
   accepted-next e =
-      let a = all-false (tests k ed s b) e .1 .1 in
+      let a = all-false (tests k ed s b) e in
       let h = headOf b in
-      let c = both (ltb 0 (h .count)) (leb (h .count) 65535) (not-false _ (a .0)) in
-      let n = eqb-true (h .number) (s .progress .next) (not-false _ (a .1 .0)) in
-      let l = ltb-true (h .number) (h .count) (not-false _ (a .1 .1 .1 .1 .0)) in
-      omega (arith, leb-true (h .count) 65535 c)
+      let fits = not-false (countFits (h .count)) (a .1 .1 .0) in
+      let n = eqb-true (h .number) (s .progress .next) (not-false (eqb (h .number) (s .progress .next)) (a .1 .1 .1 .0)) in
+      omega (arith, n, number-below (s .progress) h (a .0) fits n (a .1 .1 .1 .1 .0), leb-true (h .count) 65535 (both (ltb 0 (h .count)) (leb (h .count) 65535) fits))
     where
       both : (t u : Bool) → (t && u) ≡ true → u ≡ true
       both true u q = q

@@ -5,7 +5,7 @@ use mathlib.Core.List.{List, [], _∷_, _++_}
 use lib.ListN.{drop}
 use Rattle.octets.specs.Blocks.{BlockCipher}
 use Rattle.header.specs.Layout.{checkAt, headOf}
-use Rattle.header.specs.Rules.{firstOf, done, headTests}
+use Rattle.header.specs.Rules.{firstOf, closed, headTests}
 use Rattle.header.specs.declared.Head.{Head}
 use Rattle.header.specs.declared.Progress.{Progress}
 use Rattle.header.specs.declared.Reason.{Reason}
@@ -28,7 +28,7 @@ pub record Standing : Type 0 where
 
 -- before the first block
 abbrev pub begun : Progress
-begun = record { next = 0; fixed = false; count = 0; release = 0 }
+begun = record { next = 0; count = 0; release = 0 }
 
 abbrev pub standing : Progress → Standing
 standing s = record { progress = s; last = noCheck }
@@ -38,15 +38,15 @@ fresh = standing begun
 
 -- after a block was accepted
 abbrev pub advanced : Progress → Head → Progress
-advanced s h = record { next = s .next + 1; fixed = true; count = h .count; release = h .release }
+advanced s h = record { next = s .next + 1; count = h .count; release = h .release }
 
 abbrev pub taken : Standing → List ℕ → Standing
 taken s b = record { progress = advanced (s .progress) (headOf b); last = drop checkAt b }
 
--- 16, 14, then 7 to 13 of the header, then 15, in that order
+-- 16, 14, then 7, 8, 9, 10, 12, 13 of the header, then 15, in that order
 abbrev pub tests : Keys → Edition → Standing → List ℕ → List (Bool × Reason)
 tests k ed s b =
-    (done (s .progress), AfterLast)
+    (closed (s .progress), AfterLast)
     ∷ (not (k .usable && checks (k .mac) (ed .tail (s .last)) b), CheckWrong)
     ∷ (headTests (ed .mark) (s .progress) (headOf b) ++ ((not (fillZero (k .enc) b), FillNotZero) ∷ []))
 

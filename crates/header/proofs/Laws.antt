@@ -1,8 +1,11 @@
--- A header and its bytes. Assumes nothing.
+-- A header and its bytes, and that its number is below its count. Assumes nothing.
 use mathlib.Core.Path.{_≡_, refl, ap₂, sym, _∙_}
+use mathlib.Core.Bool.{Bool, true, false, _&&_, not}
 use mathlib.Core.List.{List, [], _∷_, _++_}
 use Prim.Native.Nat.{ℕ, zero, suc, _+_, _*_, _/_, _%_, _≤_, _<_}
 use native.Mathlib.Omega.{arith}
+use borrow.Author.Tests.{ltb-true, ltb-false, leb-false, eqb-true, not-false}
+use lib.Dec.{eqb, ltb, leb}
 use lib.ListN.{length, getD, take, drop}
 use lib.Seq.{drop-cons, getD-take}
 use Rattle.octets.specs.Octets.{Bytes, Octets}
@@ -10,7 +13,9 @@ use Rattle.octets.specs.Words.{word, wordAt, bytesOf}
 use Rattle.octets.proofs.Words.{byte-lt, byte0-word, byte1-word, byte2-word, byte3-word, word-bytes}
 use Rattle.octets.proofs.Blocks.{append-bytes}
 use Rattle.header.specs.Layout.{halfAt, halfBytes, headOf, headBytes}
+use Rattle.header.specs.Rules.{closed, countFits}
 use Rattle.header.specs.declared.Head.{Head}
+use Rattle.header.specs.declared.Progress.{Progress}
 
 -- a header by its fields
 pub head-by : (b : List ℕ) (n c r l v : ℕ) → n ≡ wordAt b 0 → c ≡ wordAt b 4 → r ≡ wordAt b 8 → l ≡ halfAt b 12 → v ≡ halfAt b 14
@@ -111,3 +116,17 @@ head-octets h = record {
 
     twelve : Bytes (bytesOf (h .number ∷ h .count ∷ h .release ∷ []))
     twelve = four (h .number) (h .count ∷ h .release ∷ []) (four (h .count) (h .release ∷ []) (four (h .release) [] (λ k. omega arith)))
+
+-- where neither 16 nor 7, 8 or 9 holds, the number is below the count: it is 0, or the one expected, which is below the reader's count
+pub number-below : (s : Progress) (h : Head) → closed s ≡ false → countFits (h .count) ≡ true → h .number ≡ s .next
+    → (ltb 0 (s .next) && not (eqb (h .count) (s .count))) ≡ false → h .number < h .count
+unfolding closed countFits
+number-below s h e16 e7 e8 e9 = go (ltb 0 (s .next)) refl e16 e9
+  where
+    left : (t u : Bool) → (t && u) ≡ true → t ≡ true
+    left true u q = refl
+    left false u q = let y : _≡_ {A = ℕ} 0 1 = cc in absurd (omega arith)
+
+    go : (t : Bool) → ltb 0 (s .next) ≡ t → (t && leb (s .count) (s .next)) ≡ false → (t && not (eqb (h .count) (s .count))) ≡ false → h .number < h .count
+    go true e f g = omega (arith, e8, leb-false (s .count) (s .next) f, eqb-true (h .count) (s .count) (not-false (eqb (h .count) (s .count)) g))
+    go false e f g = omega (arith, e8, ltb-false 0 (s .next) e, ltb-true 0 (h .count) (left (ltb 0 (h .count)) (leb (h .count) 65535) e7))

@@ -10,7 +10,7 @@ use Rattle.header.specs.declared.Progress.{Progress}
 use Rattle.header.specs.declared.Reason.{Reason}
 use Rattle.header.specs.declared.Value.{Value}
 use Rattle.header.specs.declared.Value.the-variants.{Held, NoValue}
-use Rattle.header.specs.declared.Reason.the-variants.{AfterLast, CheckWrong, Count, Number, OtherCount, OtherRelease, NotBelow, Length, Reserved, FillNotZero}
+use Rattle.header.specs.declared.Reason.the-variants.{AfterLast, CheckWrong, Count, Number, OtherCount, OtherRelease, Length, Reserved, FillNotZero}
 use Rattle.header.specs.declared.Verdict.{Verdict}
 use Rattle.header.specs.declared.Verdict.the-variants.{Accepted, Refused}
 
@@ -20,7 +20,6 @@ reasonNumber (Count v) = 7
 reasonNumber (Number v) = 8
 reasonNumber (OtherCount v) = 9
 reasonNumber (OtherRelease v) = 10
-reasonNumber (NotBelow v) = 11
 reasonNumber (Length v) = 12
 reasonNumber (Reserved v) = 13
 reasonNumber CheckWrong = 14
@@ -33,7 +32,6 @@ reasonValue (Count v) = v ∷ []
 reasonValue (Number v) = v ∷ []
 reasonValue (OtherCount v) = v ∷ []
 reasonValue (OtherRelease v) = v ∷ []
-reasonValue (NotBelow v) = v ∷ []
 reasonValue (Length v) = v ∷ []
 reasonValue (Reserved v) = v ∷ []
 reasonValue CheckWrong = []
@@ -55,9 +53,13 @@ unfoldable pub firstOf : List (Bool × Reason) → Verdict
 firstOf [] = Accepted
 firstOf (t ∷ ts) = choose (t .0) (Refused (t .1)) (firstOf ts)
 
--- the last block has been accepted: count and release are fixed, and the number expected is the count
+-- the last block has been accepted: at least one has, and the number expected is the count
 unfoldable pub done : Progress → Bool
-done s = s .fixed && eqb (s .next) (s .count)
+done s = ltb 0 (s .next) && eqb (s .next) (s .count)
+
+-- no block may follow: at least one has been accepted, and the number expected is not below the count
+unfoldable pub closed : Progress → Bool
+closed s = ltb 0 (s .next) && leb (s .count) (s .next)
 
 -- a count is 1 to 65,535
 unfoldable pub countFits : ℕ → Bool
@@ -68,14 +70,14 @@ unfoldable pub lengthFits : (number count len : ℕ) → Bool
 lengthFits number count len =
     choose (eqb (number + 1) count) (leb len bodySize && (ltb 0 len || eqb count 1)) (eqb len bodySize)
 
--- 7, 8, 9, 10, 11, 12, 13 of a block's own header, in that order; an edition's mark is what its reserved number is to be
+-- 7, 8, 9, 10, 12, 13 of a block's own header, in that order; an edition's mark is what its reserved number is to be, and from the first
+-- accepted block on, count and release are the reader's
 unfoldable pub headTests : (mark : ℕ) → Progress → Head → List (Bool × Reason)
 headTests mark s h =
     (not (countFits (h .count)), Count (h .count))
     ∷ (not (eqb (h .number) (s .next)), Number (h .number))
-    ∷ (s .fixed && not (eqb (h .count) (s .count)), OtherCount (h .count))
-    ∷ (s .fixed && not (eqb (h .release) (s .release)), OtherRelease (h .release))
-    ∷ (not (ltb (h .number) (h .count)), NotBelow (h .number))
+    ∷ (ltb 0 (s .next) && not (eqb (h .count) (s .count)), OtherCount (h .count))
+    ∷ (ltb 0 (s .next) && not (eqb (h .release) (s .release)), OtherRelease (h .release))
     ∷ (not (lengthFits (h .number) (h .count) (h .len)), Length (h .len))
     ∷ (not (eqb (h .reserved) mark), Reserved (h .reserved))
     ∷ []

@@ -6,7 +6,7 @@ ghost use mathlib.Core.Bool.{_&&_, _||_, not};
 ghost use Prim.Native.Nat.{_+_, _*_, _/_, _%_};
 ghost use lib.Dec.{eqb, ltb, leb};
 ghost use Rattle.header.specs.Layout.{bodySize, headOf, headBytes};
-ghost use Rattle.header.specs.Rules.{reasonNumber, reasonValue, valueOf, firstOf, done, countFits, lengthFits, headTests};
+ghost use Rattle.header.specs.Rules.{reasonNumber, reasonValue, valueOf, firstOf, done, closed, countFits, lengthFits, headTests};
 
 pub struct Head {
     pub number: u32,
@@ -16,10 +16,11 @@ pub struct Head {
     pub reserved: u16,
 }
 
-// How far a reader has come: the number that it expects, and the count and release that its first accepted block fixed.
+// How far a reader has come: the number that it expects, and, where that is not 0, the count and release that its first accepted
+// block fixed.
+#[repr(C)]
 pub struct Progress {
     pub next: u32,
-    pub fixed: bool,
     pub count: u32,
     pub release: u32,
 }
@@ -32,7 +33,6 @@ pub enum Reason {
     Number(u32),
     OtherCount(u32),
     OtherRelease(u32),
-    NotBelow(u32),
     Length(u16),
     Reserved(u16),
     FillNotZero,
@@ -53,7 +53,6 @@ impl Reason {
             Reason::Number(n) => 8,
             Reason::OtherCount(n) => 9,
             Reason::OtherRelease(n) => 10,
-            Reason::NotBelow(n) => 11,
             Reason::Length(n) => 12,
             Reason::Reserved(n) => 13,
             Reason::CheckWrong => 14,
@@ -70,7 +69,6 @@ impl Reason {
             Reason::Number(n) => Value::Held(n),
             Reason::OtherCount(n) => Value::Held(n),
             Reason::OtherRelease(n) => Value::Held(n),
-            Reason::NotBelow(n) => Value::Held(n),
             Reason::Length(n) => Value::Held(n as u32),
             Reason::Reserved(n) => Value::Held(n as u32),
             Reason::CheckWrong => Value::NoValue,
@@ -131,8 +129,18 @@ pub fn head_bytes(head: Head) -> [u8; 16]
 pub fn complete(progress: Progress) -> bool
     ensures { λ r. ⌜ r ≡ done progress ⌝ }
 {
-    if progress.fixed {
-        progress.next == progress.count
+    if progress.next == 0 {
+        return false;
+    }
+    progress.next == progress.count
+}
+
+// Whether no block may follow: then a block is refused by 16, whatever it holds.
+pub fn closed(progress: Progress) -> bool
+    ensures { λ r. ⌜ r ≡ closed progress ⌝ }
+{
+    if 0 < progress.next {
+        progress.count <= progress.next
     } else {
         false
     }
@@ -155,7 +163,7 @@ pub fn length_fits(number: u32, count: u32, len: usize) -> bool
     }
 }
 
-// What the tests 7 to 13 say of a header, asked in that order; the reserved number is to be the mark.
+// What the tests 7, 8, 9, 10, 12 and 13 say of a header, asked in that order; the reserved number is to be the mark.
 pub fn judge_head(progress: Progress, head: Head, mark: u16) -> Verdict
     ensures { λ r. ⌜ r ≡ firstOf (headTests mark progress head) ⌝ }
 {
@@ -165,8 +173,8 @@ pub fn judge_head(progress: Progress, head: Head, mark: u16) -> Verdict
     let len = head.len;
     let reserved = head.reserved;
     let other_number = number != progress.next;
-    let other_count = differs(progress.fixed, count, progress.count);
-    let other_release = differs(progress.fixed, release, progress.release);
+    let other_count = differs(progress.next, count, progress.count);
+    let other_release = differs(progress.next, release, progress.release);
     if !count_fits(count) {
         return Verdict::Refused(Reason::Count(count));
     }
@@ -178,9 +186,6 @@ pub fn judge_head(progress: Progress, head: Head, mark: u16) -> Verdict
     }
     if other_release {
         return Verdict::Refused(Reason::OtherRelease(release));
-    }
-    if number >= count {
-        return Verdict::Refused(Reason::NotBelow(number));
     }
     if !length_fits(number, count, len as usize) {
         return Verdict::Refused(Reason::Length(len));
@@ -220,9 +225,9 @@ fn last_fits(count: u32, len: usize) -> bool
     true
 }
 
-// Before count and release are fixed no value differs from them.
-fn differs(fixed: bool, found: u32, wanted: u32) -> bool
-    ensures { λ r. ⌜ r ≡ fixed && not (eqb found wanted) ⌝ }
+// Before the first block has been accepted nothing is fixed, and no value differs.
+fn differs(next: u32, found: u32, fixed: u32) -> bool
+    ensures { λ r. ⌜ r ≡ ltb 0 next && not (eqb found fixed) ⌝ }
 {
-    if fixed { found != wanted } else { false }
+    if 0 < next { found != fixed } else { false }
 }

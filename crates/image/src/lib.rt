@@ -42,6 +42,7 @@ impl WriteAnswer {
 }
 
 // The schedules of the encryption key and of the check key, and how far the reader has come.
+#[repr(C)]
 pub struct Reader {
     pub enc: KeySchedule,
     pub chk: KeySchedule,
@@ -256,7 +257,6 @@ fn started(answer: KeyAnswer, enc: KeySchedule, chk: KeySchedule) -> ReadStarted
             chk,
             progress: Progress {
                 next: 0,
-                fixed: false,
                 count: 0,
                 release: 0,
             },

@@ -6,8 +6,8 @@ use mathlib.Core.List.{List, [], _∷_, _++_}
 use Prim.Native.Nat.{ℕ, _+_, _-_, _*_, _≤_, _<_}
 use native.Mathlib.Nat.{add-zero, zero-add}
 use native.Mathlib.Omega.{arith}
-use borrow.Author.Tests.{eqb-true, eqb-false, eq-eqb}
-use lib.Dec.{eqb}
+use borrow.Author.Tests.{eqb-true, eqb-false, eq-eqb, ltb-true, ltb-false, lt-ltb}
+use lib.Dec.{eqb, ltb}
 use lib.ListN.{length, getD, take, drop, length-append, length-drop, replicate}
 use lib.Seq.{take-at, drop-at, drop-drop, drop-append-add}
 use Rattle.octets.specs.Octets.{choose, Bytes, Octets, over, joined}
@@ -21,11 +21,11 @@ use Rattle.fips197.proofs.Aes.{key-lawful}
 use Rattle.sp800_38a.specs.Pieces.{piece}
 use Rattle.sp800_38b.specs.Cmac.{cmac, SameOutside}
 use Rattle.header.specs.Layout.{headOf}
-use Rattle.header.specs.Rules.{done, reasonNumber}
+use Rattle.header.specs.Rules.{done, closed, reasonNumber}
 use Rattle.header.specs.declared.Head.{Head}
 use Rattle.header.specs.declared.Progress.{Progress}
 use Rattle.header.specs.declared.Reason.{Reason}
-use Rattle.header.specs.declared.Reason.the-variants.{AfterLast, CheckWrong, Count, Number, OtherCount, OtherRelease, NotBelow, Length, Reserved, FillNotZero}
+use Rattle.header.specs.declared.Reason.the-variants.{AfterLast, CheckWrong, Count, Number, OtherCount, OtherRelease, Length, Reserved, FillNotZero}
 use Rattle.header.specs.declared.Verdict.the-variants.{Accepted, Refused}
 use Rattle.header.proofs.Laws.{Wide}
 use Rattle.format.specs.Edition.{Edition, one, noCheck}
@@ -45,7 +45,7 @@ use Rattle.promises.proofs.Keys.{KeyTaken}
 use Rattle.promises.proofs.Lemmas.ImageSealed.{sealed-size, sealed-bytes, sealed-checks, sealed-opened, sealed-head, sealed-fill}
 use Rattle.promises.proofs.Lemmas.ImageJudge.{damaged-check, accepted-met, accepted-sealed, verdict-says, no-row-accepted, met-accepted, fits-count, no-keys}
 use Rattle.promises.proofs.Lemmas.ImageTurn.{out-at, ran-append, ran-state, advance, accepted-le, end-all, ends-or-at, stop-place, stops-by, ran-met, met-ends, first-fixes, none-accepted, no-keys-none, ran-out, ran-bytes, met-filled, parts-length}
-use Rattle.promises.proofs.Lemmas.ImageSound.{ran-never-11}
+use Rattle.promises.proofs.Lemmas.ImageSound.{sound-end}
 use Rattle.promises.proofs.Lemmas.ImageWhole.{written-length, Passes, Left, left-fits, written-at, image-blocks, image-parts, image-passes}
 use Rattle.promises.proofs.Lemmas.ImageCalls.{start-keys, output-rest, fresh-start, answer-says, told-turn, keysUnder, start-fresh, start-refused, start-zeros, usable-lawful, fit-written, output-block, cut-length, given-blocks, fair-turn, by-turn, reading-length, reading-le, one-accepted}
 use Rattle.promises.proofs.Lemmas.ImageRead.{blocks-split, size, head-is, opens, keys-are, accepts, refuses, turns-read, from-sound}
@@ -111,7 +111,7 @@ pub refused-start-gives-zeros : (ekey ckey : List ℕ) → keyNumber (startOf ek
     → startOf ekey ckey .reader ≡ record {
       enc = record { words = replicate 60 0; rounds = 0 };
       chk = record { words = replicate 60 0; rounds = 0 };
-      progress = record { next = 0; fixed = false; count = 0; release = 0 };
+      progress = record { next = 0; count = 0; release = 0 };
     }
 refused-start-gives-zeros ekey ckey h = start-zeros ekey ckey h
 
@@ -152,22 +152,25 @@ turn-ends r lent asked out f m =
     ∙ met-ends (keysOf r) one (standing (r .progress)) (given lent asked)
     (subst (λ (n : ℕ). AllMet (keysOf r) one (standing (r .progress)) n (given lent asked)) (sym (cut-length (handled lent asked) lent)) m)
 
--- a reader is complete once count and release are fixed and the number expected is the count, or not complete
+-- a reader is complete once a block has been accepted and the number expected is the count, or not complete
 pub completion-as-told : (r : Reader) → CompletionSays (r .progress) (completionOf r)
 unfolding completionOf done
-completion-as-told r = go (r .progress .fixed) (eqb (r .progress .next) (r .progress .count)) refl refl
+completion-as-told r = go (ltb 0 n) (eqb n c) refl refl
   where
-    unlike : (t : Bool) → t ≡ true → t ≡ false → ⊥
-    unlike t e f = let z : true ≡ false = sym e ∙ f in let y : _≡_ {A = ℕ} 0 1 = cc in omega arith
+    n : ℕ
+    n = r .progress .next
 
-    go : (a b : Bool) → r .progress .fixed ≡ a → eqb (r .progress .next) (r .progress .count) ≡ b → CompletionSays (r .progress) (choose (a && b) Complete NotComplete)
-    go true true e f = (e, eqb-true (r .progress .next) (r .progress .count) f)
-    go true false e f = λ x y. eqb-false (r .progress .next) (r .progress .count) f y
-    go false b e f = λ x y. unlike (r .progress .fixed) x e
+    c : ℕ
+    c = r .progress .count
 
-pub completed : (r : Reader) → r .progress .fixed ≡ true → r .progress .next ≡ r .progress .count → completionOf r ≡ Complete
+    go : (a b : Bool) → ltb 0 n ≡ a → eqb n c ≡ b → CompletionSays (r .progress) (choose (a && b) Complete NotComplete)
+    go true true e f = (ltb-true 0 n e, eqb-true n c f)
+    go true false e f = λ x y. eqb-false n c f y
+    go false b e f = λ x y. let z = ltb-false 0 n e in omega arith
+
+pub completed : (r : Reader) → 0 < r .progress .next → r .progress .next ≡ r .progress .count → completionOf r ≡ Complete
 unfolding completionOf done
-completed r f e = rw (f, eq-eqb (r .progress .next) (r .progress .count) e)
+completed r f e = rw (lt-ltb 0 (r .progress .next) f, eq-eqb (r .progress .next) (r .progress .count) e)
 
 -- ---- demand 2: what the writer leaves
 
@@ -213,30 +216,30 @@ written-is-read ekey ckey number count release payload b w s a asked out la ha l
 -- ---- demand 3: what is damaged is refused
 
 -- a block that is the written one outside one piece of 16 bytes, the check being piece 31, and is not the written one is refused by a
--- reader under the same keys, wherever it stands: by 16 where the image is complete, else by 14
+-- reader under the same keys, wherever it stands: by 16 where no block may follow, else by 14
 pub damaged-is-refused : (ekey ckey : List ℕ) (number count release : ℕ) (payload b : List ℕ) → Wrote ekey ckey number count release payload b
     → (i : ℕ) (d : List ℕ) → Octets 512 d → SameOutside i d b → (d ≡ b → ⊥)
-    → (s : Progress) (t : Standing) → judge (keysOf (readerOf ekey ckey s)) one t d ≡ choose (done (t .progress)) (Refused AfterLast) (Refused CheckWrong)
+    → (s : Progress) (t : Standing) → judge (keysOf (readerOf ekey ckey s)) one t d ≡ choose (closed (t .progress)) (Refused AfterLast) (Refused CheckWrong)
 damaged-is-refused ekey ckey number count release payload b w i d o q n s t = refuses ekey ckey number count release payload b w i d o q n s t
 
 -- and ends a turn that has it at any place: the turn accepts no more than the blocks before it, and where it accepts those it stops there
--- by 14, or by 16 where they completed the image; nothing of it reaches the output
+-- by 14, or by 16 where no block may follow them; nothing of it reaches the output
 pub damaged-ends-a-turn : (ekey ckey : List ℕ) (number count release : ℕ) (payload b : List ℕ) → Wrote ekey ckey number count release payload b
     → (i : ℕ) (d : List ℕ) → Octets 512 d → SameOutside i d b → (d ≡ b → ⊥)
     → (s : Progress) (lent : List ℕ) (asked : ℕ) (out : List ℕ) → Bytes lent → Fair lent asked out → (p : ℕ) → p < handled lent asked → getD (given lent asked) p [] ≡ d
     → (turnOf (readerOf ekey ckey s) lent asked out .0 .accepted ≤ p)
     × (turnOf (readerOf ekey ckey s) lent asked out .0 .accepted ≡ p
-    → turnOf (readerOf ekey ckey s) lent asked out .0 .stop ≡ At p (choose (done (turnOf (readerOf ekey ckey s) lent asked out .0 .reader .progress)) AfterLast CheckWrong))
+    → turnOf (readerOf ekey ckey s) lent asked out .0 .stop ≡ At p (choose (closed (turnOf (readerOf ekey ckey s) lent asked out .0 .reader .progress)) AfterLast CheckWrong))
     × (drop (480 * p) (turnOf (readerOf ekey ckey s) lent asked out .1) ≡ drop (480 * p) out)
 damaged-ends-a-turn ekey ckey number count release payload b w i d o q n s lent asked out bl f p hp at =
-    subst (λ (t : Turn × List ℕ). (t .0 .accepted ≤ p) × (t .0 .accepted ≡ p → t .0 .stop ≡ At p (choose (done (t .0 .reader .progress)) AfterLast CheckWrong)) × (drop (480 * p) (t .1) ≡ drop (480 * p) out))
+    subst (λ (t : Turn × List ℕ). (t .0 .accepted ≤ p) × (t .0 .accepted ≡ p → t .0 .stop ≡ At p (choose (closed (t .0 .reader .progress)) AfterLast CheckWrong)) × (drop (480 * p) (t .1) ≡ drop (480 * p) out))
     (sym (fair-turn r lent asked out f)) (e .0, e .1, rest)
   where
     r : Reader
     r = readerOf ekey ckey s
 
     why : Standing → Reason
-    why t = choose (done (t .progress)) AfterLast CheckWrong
+    why t = choose (closed (t .progress)) AfterLast CheckWrong
 
     either : (t : Bool) → choose t (Refused AfterLast) (Refused CheckWrong) ≡ Refused (choose t AfterLast CheckWrong)
     either true = refl
@@ -244,7 +247,7 @@ damaged-ends-a-turn ekey ckey number count release payload b w i d o q n s lent 
 
     e : (readingOf r lent asked .accepted ≤ p) × (readingOf r lent asked .accepted ≡ p → readingOf r lent asked .stop ≡ At p (why (readingOf r lent asked .standing)))
     e = stops-by (blocksBy r) (standing s) (given lent asked) p why (subst (λ (m : ℕ). p < m) (sym (cut-length (handled lent asked) lent)) hp)
-        (λ t. ap (judge (keysOf r) one t) at ∙ refuses ekey ckey number count release payload b w i d o q n s t ∙ either (done (t .progress)))
+        (λ t. ap (judge (keysOf r) one t) at ∙ refuses ekey ckey number count release payload b w i d o q n s t ∙ either (closed (t .progress)))
 
     rest : drop (480 * p) (over (readingOf r lent asked .out) out) ≡ drop (480 * p) out
     rest =
@@ -364,7 +367,6 @@ turn-takes-all r lent asked out =
     some (Number v) e = omega arith
     some (OtherCount v) e = omega arith
     some (OtherRelease v) e = omega arith
-    some (NotBelow v) e = omega arith
     some (Length v) e = omega arith
     some (Reserved v) e = omega arith
     some CheckWrong e = omega arith
@@ -405,18 +407,18 @@ turn-place r lent asked out p y =
 
 -- the first accepted block fixes count and release, for all that follow
 pub turn-fixes : (r : Reader) (lent : List ℕ) (asked : ℕ) (out : List ℕ) → 0 < turnOf r lent asked out .0 .accepted
-    → (turnOf r lent asked out .0 .reader .progress .fixed ≡ true)
+    → (0 < turnOf r lent asked out .0 .reader .progress .next)
     × (turnOf r lent asked out .0 .reader .progress .count ≡ headOf (getD (given lent asked) 0 []) .count)
     × (turnOf r lent asked out .0 .reader .progress .release ≡ headOf (getD (given lent asked) 0 []) .release)
 turn-fixes r lent asked out =
     by-turn r lent asked out
-    (λ (t : Turn × List ℕ). 0 < t .0 .accepted → (t .0 .reader .progress .fixed ≡ true)
+    (λ (t : Turn × List ℕ). 0 < t .0 .accepted → (0 < t .0 .reader .progress .next)
     × (t .0 .reader .progress .count ≡ headOf (getD (given lent asked) 0 []) .count) × (t .0 .reader .progress .release ≡ headOf (getD (given lent asked) 0 []) .release))
     (λ e. absurd (omega arith)) (λ e. absurd (omega arith)) (λ e. absurd (omega arith))
     (λ f. go (given lent asked))
   where
     go : (bs : List (List ℕ)) → 0 < readBlocks (blocksBy r) (standing (r .progress)) bs .accepted
-        → (readBlocks (blocksBy r) (standing (r .progress)) bs .standing .progress .fixed ≡ true)
+        → (0 < readBlocks (blocksBy r) (standing (r .progress)) bs .standing .progress .next)
         × (readBlocks (blocksBy r) (standing (r .progress)) bs .standing .progress .count ≡ headOf (getD bs 0 []) .count) × (readBlocks (blocksBy r) (standing (r .progress)) bs .standing .progress .release ≡ headOf (getD bs 0 []) .release)
     go [] h = absurd (omega (arith, accepted-le (blocksBy r) (standing (r .progress)) []))
     go (b ∷ bs) h = first-fixes (keysOf r) one (standing (r .progress)) b bs h
@@ -507,8 +509,8 @@ turn-fills r lent asked out b =
 
 -- ---- demand 2: a reader without usable keys accepts nothing
 
--- every block is refused by 14, or by 16 where the state is complete
-pub no-keys-refuses : (r : Reader) → keysOf r .usable ≡ false → (ed : Edition) (s : Standing) (b : List ℕ) → judge (keysOf r) ed s b ≡ choose (done (s .progress)) (Refused AfterLast) (Refused CheckWrong)
+-- every block is refused by 14, or by 16 where none may follow
+pub no-keys-refuses : (r : Reader) → keysOf r .usable ≡ false → (ed : Edition) (s : Standing) (b : List ℕ) → judge (keysOf r) ed s b ≡ choose (closed (s .progress)) (Refused AfterLast) (Refused CheckWrong)
 no-keys-refuses r e ed s b = no-keys (keysOf r) ed s b e
 
 pub no-keys-turn : (r : Reader) → keysOf r .usable ≡ false → (lent : List ℕ) (asked : ℕ) (out : List ℕ)
@@ -522,7 +524,7 @@ no-keys-turn r e lent asked out =
 -- such is the state that a refused start gives: every block gets 14, and no turn changes anything
 pub refused-start-refuses : (ekey ckey : List ℕ) → keyNumber (startOf ekey ckey .answer) ≡ 1
     → (b : List ℕ) → judge (keysOf (startOf ekey ckey .reader)) one (standing (startOf ekey ckey .reader .progress)) b ≡ Refused CheckWrong
-unfolding done
+unfolding closed
 refused-start-refuses ekey ckey h b =
     let s = start-refused ekey ckey h in
     no-keys-refuses (startOf ekey ckey .reader) (s .0) one (standing (startOf ekey ckey .reader .progress)) b ∙ ap unchecked (s .1)
@@ -544,18 +546,15 @@ pub last-completes : (r : Reader) (b : List ℕ) → judge (keysOf r) one (stand
     → completionOf (inState r (advanced (r .progress) (headOf b))) ≡ choose (eqb (headOf b .number + 1) (headOf b .count)) Complete NotComplete
 unfolding completionOf done
 last-completes r b e =
-    ap (λ (n : ℕ). choose (eqb (n + 1) (headOf b .count)) Complete NotComplete) (sym (accepted-met (keysOf r) one (standing (r .progress)) b e .head-right .expected))
+    rw (lt-ltb 0 (r .progress .next + 1) (omega arith))
+    (ap (λ (n : ℕ). choose (eqb (n + 1) (headOf b .count)) Complete NotComplete) (sym (accepted-met (keysOf r) one (standing (r .progress)) b e .head-right .expected)))
 
 -- ---- the states that a start and turns make
 
--- once count and release are fixed, the number expected is never past the count; before, it is 0
+-- once a block has been accepted, the number expected is never past the count
 pub from-start-sound : (ekey ckey : List ℕ) (r : Reader) → FromStart ekey ckey r → Sound (r .progress)
 from-start-sound ekey ckey r f = from-sound ekey ckey r f
 
--- and no turn of theirs stops by 11
-pub from-start-never-11 : (ekey ckey : List ℕ) (r : Reader) → FromStart ekey ckey r → (lent : List ℕ) (asked : ℕ) (out : List ℕ) (place value : ℕ)
-    → turnOf r lent asked out .0 .stop ≡ At place (NotBelow value) → ⊥
-from-start-never-11 ekey ckey r f lent asked out p v =
-    by-turn r lent asked out (λ (t : Turn × List ℕ). t .0 .stop ≡ At p (NotBelow v) → ⊥)
-    (λ e. let z : _≡_ {A = ℕ} 0 1 = cc in omega arith) (λ e. let z : _≡_ {A = ℕ} 0 1 = cc in omega arith) (λ e. let z : _≡_ {A = ℕ} 0 1 = cc in omega arith)
-    (λ g e. ran-never-11 (keysOf r) one (standing (r .progress)) (given lent asked) p v (from-sound ekey ckey r f) e)
+-- so that a block gets 16 exactly where the image is complete
+pub from-start-16-is-complete : (ekey ckey : List ℕ) (r : Reader) → FromStart ekey ckey r → closed (r .progress) ≡ done (r .progress)
+from-start-16-is-complete ekey ckey r f = sound-end (r .progress) (from-sound ekey ckey r f)

@@ -11,7 +11,7 @@ use Rattle.octets.specs.Octets.{Bytes, Octets, choose, over}
 use Rattle.schedule.specs.Schedule.{keyNumber}
 use Rattle.lookups.specs.Lookups.{tableCipher}
 use Rattle.sp800_38b.specs.Cmac.{SameOutside}
-use Rattle.header.specs.Rules.{done, verdictNumber}
+use Rattle.header.specs.Rules.{closed, verdictNumber}
 use Rattle.header.specs.declared.Progress.{Progress}
 use Rattle.header.specs.declared.Reason.the-variants.{AfterLast, CheckWrong}
 use Rattle.header.specs.declared.Reason.{Reason}
@@ -39,6 +39,7 @@ use Rattle.blocks.proofs.equal.Reads as equal
 use Rattle.header.proofs.head_of.Reads as head-of
 use Rattle.header.proofs.head_bytes.Reads as head-bytes
 use Rattle.header.proofs.complete.Reads as complete
+use Rattle.header.proofs.closed.Reads as is-closed
 use Rattle.header.proofs.count_fits.Reads as count-fits
 use Rattle.header.proofs.length_fits.Reads as length-fits
 use Rattle.header.proofs.judge_head.Reads as judge-head
@@ -76,6 +77,12 @@ complete-asks-nothing κs a = tt
 
 pub complete-determined : (κs : _) (a : _) (r r′ : _) (s s′ : _) → complete.Post κs a r s → complete.Post κs a r′ s′ → r ≡ r′
 complete-determined κs a r r′ s s′ p q = p ∙ sym q
+
+pub closed-asks-nothing : (κs : _) (a : _) → is-closed.Asked κs a
+closed-asks-nothing κs a = tt
+
+pub closed-determined : (κs : _) (a : _) (r r′ : _) (s s′ : _) → is-closed.Post κs a r s → is-closed.Post κs a r′ s′ → r ≡ r′
+closed-determined κs a r r′ s s′ p q = p ∙ sym q
 
 pub count-fits-asks-nothing : (κs : _) (a : _) → count-fits.Asked κs a
 count-fits-asks-nothing κs a = tt
@@ -286,7 +293,7 @@ pub read-start-refused-zeros : (κs : _) (a : _) (r : _) (s : _) → read-start.
     → r .reader ≡ record {
       enc = record { words = replicate 60 0; rounds = 0 };
       chk = record { words = replicate 60 0; rounds = 0 };
-      progress = record { next = 0; fixed = false; count = 0; release = 0 };
+      progress = record { next = 0; count = 0; release = 0 };
     }
 read-start-refused-zeros κs a r s p e =
     ap (λ (x : ReadStarted). x .reader) p ∙ refused-start-gives-zeros (now (a .0)) (now (a .1 .0)) (ap (λ (x : ReadStarted). keyNumber (x .answer)) (sym p) ∙ e)
@@ -302,7 +309,7 @@ read-turn-done κs a r s p f m = ap (λ (x : Turn × List ℕ). stopNumber (x .0
 pub read-complete-as-told : (κs : _) (a : _) (r : _) (s : _) → read-complete.Post κs a r s → CompletionSays (a .0 .progress) r
 read-complete-as-told κs a r s p = subst (CompletionSays (a .0 .progress)) (sym p) (completion-as-told (a .0))
 
-pub read-complete-done : (κs : _) (a : _) (r : _) (s : _) → read-complete.Post κs a r s → a .0 .progress .fixed ≡ true → a .0 .progress .next ≡ a .0 .progress .count → completionNumber r ≡ 0
+pub read-complete-done : (κs : _) (a : _) (r : _) (s : _) → read-complete.Post κs a r s → 0 < a .0 .progress .next → a .0 .progress .next ≡ a .0 .progress .count → completionNumber r ≡ 0
 read-complete-done κs a r s p f e = ap completionNumber (p ∙ completed (a .0) f e)
 
 -- ---- demands 2 and 3 for the calls: what `write` wrote, offered to `read_turn`
@@ -334,16 +341,16 @@ module _ (κs : _) (a : _) (r : _) (s : _) (p : write.Post κs a r s)
         )
 
     -- that has the block damaged inside one 16-byte piece, or inside its check, at any place of what it handles accepts no more than the
-    -- blocks before it; where it accepts those, it stops there by 14, or by 16 if they completed the image; and nothing of it is handed out
+    -- blocks before it; where it accepts those, it stops there by 14, or by 16 where no block may follow them; and nothing of it is handed out
     pub damage-is-refused : (i : ℕ) (d : List ℕ) → Octets 512 d → SameOutside i d (take 512 (now (s .1 .1 .1 .1 .1 .1 .0))) → (d ≡ take 512 (now (s .1 .1 .1 .1 .1 .1 .0)) → ⊥)
         → Bytes (now (a′ .1 .0)) → Fair (now (a′ .1 .0)) (a′ .1 .1 .0) (now (a′ .1 .1 .1 .0))
         → (place : ℕ) → place < handled (now (a′ .1 .0)) (a′ .1 .1 .0) → getD (given (now (a′ .1 .0)) (a′ .1 .1 .0)) place [] ≡ d
         → (r′ .accepted ≤ place)
-        × (r′ .accepted ≡ place → r′ .stop ≡ At place (choose (done (r′ .reader .progress)) AfterLast CheckWrong))
+        × (r′ .accepted ≡ place → r′ .stop ≡ At place (choose (closed (r′ .reader .progress)) AfterLast CheckWrong))
         × (drop (480 * place) (now (s′ .1 .1 .1 .0)) ≡ drop (480 * place) (now (a′ .1 .1 .1 .0)))
     damage-is-refused i d octets same differ lent fair place below at =
         subst
-        (λ (t : Turn × List ℕ). (t .0 .accepted ≤ place) × (t .0 .accepted ≡ place → t .0 .stop ≡ At place (choose (done (t .0 .reader .progress)) AfterLast CheckWrong))
+        (λ (t : Turn × List ℕ). (t .0 .accepted ≤ place) × (t .0 .accepted ≡ place → t .0 .stop ≡ At place (choose (closed (t .0 .reader .progress)) AfterLast CheckWrong))
         × (drop (480 * place) (t .1) ≡ drop (480 * place) (now (a′ .1 .1 .1 .0))))
         (sym (q ∙ ap (λ (x : Reader). turnOf x (now (a′ .1 .0)) (a′ .1 .1 .0) (now (a′ .1 .1 .1 .0))) reader))
         (damaged-ends-a-turn (now (a .0)) (now (a .1 .0)) (a .1 .1 .0) (a .1 .1 .1 .0) (a .1 .1 .1 .1 .0) (now (a .1 .1 .1 .1 .1 .0)) (take 512 (now (s .1 .1 .1 .1 .1 .1 .0))) wrote i d octets same differ st

@@ -9,11 +9,11 @@ use Rattle.octets.specs.Blocks.{BlockCipher}
 use Rattle.schedule.specs.declared.KeyAnswer.{KeyAnswer}
 use Rattle.schedule.specs.declared.KeyAnswer.the-variants.{Taken, KeyLength}
 use Rattle.header.specs.Layout.{headOf}
-use Rattle.header.specs.Rules.{done, lengthFits}
+use Rattle.header.specs.Rules.{closed, lengthFits}
 use Rattle.header.specs.declared.Head.{Head}
 use Rattle.header.specs.declared.Progress.{Progress}
 use Rattle.header.specs.declared.Reason.{Reason}
-use Rattle.header.specs.declared.Reason.the-variants.{AfterLast, CheckWrong, Count, Number, OtherCount, OtherRelease, NotBelow, Length, Reserved, FillNotZero}
+use Rattle.header.specs.declared.Reason.the-variants.{AfterLast, CheckWrong, Count, Number, OtherCount, OtherRelease, Length, Reserved, FillNotZero}
 use Rattle.header.specs.declared.Verdict.{Verdict}
 use Rattle.header.specs.declared.Verdict.the-variants.{Accepted, Refused}
 use Rattle.format.specs.Edition.{Edition, one, noCheck}
@@ -40,14 +40,14 @@ pub record Proper (ed : Edition) : Type 0 where
 
 -- ---- the verdict on a block
 
--- what the tests ask of a header in an edition with this mark
+-- what the tests ask of a header in an edition with this mark, and of the reader that none of its blocks was the last
 pub record Right (mark : ℕ) (s : Progress) (h : Head) : Type 0 where
+  pub still-open : 0 < s .next → s .next < s .count
   pub count-low : 0 < h .count
   pub count-high : h .count ≤ 65535
   pub expected : h .number ≡ s .next
-  pub same-count : s .fixed ≡ true → h .count ≡ s .count
-  pub same-release : s .fixed ≡ true → h .release ≡ s .release
-  pub below : h .number < h .count
+  pub same-count : 0 < s .next → h .count ≡ s .count
+  pub same-release : 0 < s .next → h .release ≡ s .release
   pub len-fits : lengthFits (h .number) (h .count) (h .len) ≡ true
   pub marked : h .reserved ≡ mark
 
@@ -60,18 +60,17 @@ pub record Met (k : Keys) (ed : Edition) (s : Standing) (b : List ℕ) : Type 0 
 
 -- the table's row for a reason: when it is given, and that the value held is the one found
 abbrev pub Row : Keys → Edition → Standing → List ℕ → Reason → Type 0
-Row k ed s b AfterLast = done (s .progress) ≡ true
+Row k ed s b AfterLast = (0 < s .progress .next) × (s .progress .count ≤ s .progress .next)
 Row k ed s b CheckWrong = (k .usable && checks (k .mac) (ed .tail (s .last)) b) ≡ false
 Row k ed s b (Count v) = (v ≡ headOf b .count) × (0 < v → v ≤ 65535 → ⊥)
 Row k ed s b (Number v) = (v ≡ headOf b .number) × (v ≡ s .progress .next → ⊥)
-Row k ed s b (OtherCount v) = (v ≡ headOf b .count) × (s .progress .fixed ≡ true) × (v ≡ s .progress .count → ⊥)
-Row k ed s b (OtherRelease v) = (v ≡ headOf b .release) × (s .progress .fixed ≡ true) × (v ≡ s .progress .release → ⊥)
-Row k ed s b (NotBelow v) = (v ≡ headOf b .number) × (headOf b .count ≤ v)
+Row k ed s b (OtherCount v) = (v ≡ headOf b .count) × (0 < s .progress .next) × (v ≡ s .progress .count → ⊥)
+Row k ed s b (OtherRelease v) = (v ≡ headOf b .release) × (0 < s .progress .next) × (v ≡ s .progress .release → ⊥)
 Row k ed s b (Length v) = (v ≡ headOf b .len) × (lengthFits (headOf b .number) (headOf b .count) v ≡ false)
 Row k ed s b (Reserved v) = (v ≡ headOf b .reserved) × (v ≡ ed .mark → ⊥)
 Row k ed s b FillNotZero = fillZero (k .enc) b ≡ false
 
--- the order in which the rows are asked: 16, 14, 7, 8, 9, 10, 11, 12, 13, 15
+-- the order in which the rows are asked: 16, 14, 7, 8, 9, 10, 12, 13, 15
 abbrev pub rank : Reason → ℕ
 rank AfterLast = 0
 rank CheckWrong = 1
@@ -79,19 +78,18 @@ rank (Count v) = 2
 rank (Number v) = 3
 rank (OtherCount v) = 4
 rank (OtherRelease v) = 5
-rank (NotBelow v) = 6
-rank (Length v) = 7
-rank (Reserved v) = 8
-rank FillNotZero = 9
+rank (Length v) = 6
+rank (Reserved v) = 7
+rank FillNotZero = 8
 
 -- what each verdict says of a block: accepted, that it meets every test; refused, that the row for the reason holds, and no row asked before it
 abbrev pub Says : Keys → Edition → Standing → List ℕ → Verdict → Type 0
 Says k ed s b Accepted = Met k ed s b
 Says k ed s b (Refused r) = Row k ed s b r × ((q : Reason) → rank q < rank r → Row k ed s b q → ⊥)
 
--- refused by 16 where the image is complete, else by 14
+-- refused by 16 where no block may follow, else by 14
 abbrev pub unchecked : Progress → Verdict
-unchecked s = choose (done s) (Refused AfterLast) (Refused CheckWrong)
+unchecked s = choose (closed s) (Refused AfterLast) (Refused CheckWrong)
 
 -- the first n blocks meet every test, each where the reader stands after those before it
 abbrev pub AllMet : Keys → Edition → Standing → ℕ → List (List ℕ) → Type 0
@@ -192,11 +190,11 @@ inState r s = record { enc = r .enc; chk = r .chk; progress = s }
 abbrev pub readerOf : (ekey ckey : List ℕ) → Progress → Reader
 readerOf ekey ckey s = inState (startOf ekey ckey .reader) s
 
--- a state that waits for this block: the number is the one expected, and count and release are the fixed ones, if any are
+-- a state that waits for this block: the number is the one expected, and count and release are the fixed ones, if a block has been accepted
 pub record Waits (s : Progress) (number count release : ℕ) : Type 0 where
   pub next-number : number ≡ s .next
-  pub same-count : s .fixed ≡ true → count ≡ s .count
-  pub same-release : s .fixed ≡ true → release ≡ s .release
+  pub same-count : 0 < s .next → count ≡ s .count
+  pub same-release : 0 < s .next → release ≡ s .release
 
 -- where a reader stands after these blocks were accepted
 abbrev pub moved : Standing → List (List ℕ) → Standing
@@ -208,10 +206,9 @@ pub data FromStart (ekey ckey : List ℕ) : Reader → Type 0 where
   started : FromStart ekey ckey (startOf ekey ckey .reader)
   turn : {r : Reader} → FromStart ekey ckey r → (lent : List ℕ) (asked : ℕ) (out : List ℕ) → FromStart ekey ckey (turnOf r lent asked out .0 .reader)
 
--- once count and release are fixed, the number expected is never past the count; before, it is 0
+-- once a block has been accepted, the number expected is never past the count
 pub record Sound (s : Progress) : Type 0 where
-  pub within : s .fixed ≡ true → (s .next ≤ s .count) × (s .count ≤ 65535)
-  pub begun : s .fixed ≡ false → s .next ≡ 0
+  pub within : 0 < s .next → (s .next ≤ s .count) × (s .count ≤ 65535)
 
 -- ---- turns
 
@@ -255,8 +252,8 @@ StartSays ekey ckey KeyLength = KeyTaken ekey → KeyTaken ckey → ⊥
 
 -- what each answer about completion says
 abbrev pub CompletionSays : Progress → Completion → Type 0
-CompletionSays s Complete = (s .fixed ≡ true) × (s .next ≡ s .count)
-CompletionSays s NotComplete = s .fixed ≡ true → s .next ≡ s .count → ⊥
+CompletionSays s Complete = (0 < s .next) × (s .next ≡ s .count)
+CompletionSays s NotComplete = 0 < s .next → s .next ≡ s .count → ⊥
 
 -- what a caller lends in one turn
 pub record Lending : Type 0 where

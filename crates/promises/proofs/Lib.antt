@@ -11,6 +11,7 @@ pub mod Lemmas
 pub mod ImageTerms
 pub mod Image
 pub mod ImageDemands
+pub mod OldRules
 pub mod WrapTerms
 pub mod Wrap
 pub mod WrapDemands

@@ -19,6 +19,7 @@ pub enum KeyAnswer {
 }
 
 // The words of the round keys, with zeros past the last, and the number of rounds: 10, 12 or 14, or 0 where no key made it.
+#[repr(C)]
 pub struct KeySchedule {
     pub words: [u32; 60],
     pub rounds: usize,

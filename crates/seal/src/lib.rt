@@ -191,7 +191,7 @@ fn verdict_on(
     requires { ⌜ head ≡ headRead (now block) ⌝ }
     ensures { λ r. ⌜ r ≡ format.judge (lentKeys (now (forth .entry)) (now (back .entry)) (now (ewords .entry)) (now (dwords .entry)) (now (cwords .entry)) (now (key1 .entry)) (now (key2 .entry)) rounds) one (standing progress) (now (block .entry)) ⌝ }
 {
-    if header::complete(progress) {
+    if header::closed(progress) {
         return Verdict::Refused(Reason::AfterLast);
     }
     if !check_holds(forth, cwords, key1, key2, rounds, b"", block) {

@@ -6,4 +6,4 @@ use Rattle.header.specs.declared.Progress.{Progress}
 
 -- the progress after a block, were it accepted: no accepted block has the number from which the next is 0
 abbrev pub following : Progress → Head → Progress
-following s h = record { next = (s .next + 1) % 4294967296; fixed = true; count = h .count; release = h .release }
+following s h = record { next = (s .next + 1) % 4294967296; count = h .count; release = h .release }

@@ -135,7 +135,6 @@ fn advanced(progress: Progress, head: Head) -> Progress
 {
     Progress {
         next: ((progress.next as u64 + 1) % 4294967296) as u32,
-        fixed: true,
         count: head.count,
         release: head.release,
     }

@@ -112,8 +112,7 @@ fn rests(set: &Set) -> impl Iterator<Item = Input> + use<> {
     (1..BLOCK).map(move |n| Input::new(format!("rest-{n}"), whole[..KEYS + BLOCK + n].to_vec()))
 }
 
-/// Each refusal that a listing can show. 4 and 5 are of calls that it never makes, and no block gets 11: a reader that a start
-/// made expects a number below the count that is fixed, or has had the last block.
+/// Each refusal that a listing can show. 4 and 5 are of calls that it never makes.
 fn refusals(set: &Set) -> impl Iterator<Item = Input> + use<> {
     let right = set.header(2, 3);
     let mut flipped = set.input(3, 3);

@@ -10,12 +10,9 @@ read-start-requires c κs = search needs
 number-requires : tie.Need-number-requires
 number-requires c κs = search needs
 
-state-of-requires : tie.Need-state-of-requires
-state-of-requires c κs = search needs
-
 returns : tie.Need-returns
-returns c = rw (c .state-of .ensures, c .before .number .ensures) (ap readStartAnswer (c .before .before .before .read-start .ensures))
+returns c = rw (c .number .ensures) (ap readStartAnswer (c .before .before .read-start .ensures))
 
 pub dock-read-start-spec : {M : Type 1} → statement M
 dock-read-start-spec =
-    tie.close (tie.spec read-start-requires number-requires state-of-requires returns)
+    tie.close (tie.spec read-start-requires number-requires returns)

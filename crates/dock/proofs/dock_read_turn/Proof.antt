@@ -1,16 +1,11 @@
 use Prim.Native.Nat.{ℕ}
 use mathlib.Core.List.{List}
 use mathlib.Core.Path.{ap, _∙_}
-use Rattle.image.specs.Calls.{turnOf}
-use Rattle.image.specs.declared.Reader.{Reader}
 use Rattle.image.specs.declared.Turn.{Turn}
 use Rattle.dock.specs.Answers.{turnAnswer}
 use borrow.Author.Needs.{needs}
 use Rattle.dock.proofs.dock_read_turn.Statement.{statement}
 use Rattle.dock.proofs.dock_read_turn.Tie as tie
-
-reader-of-requires : tie.Need-reader-of-requires
-reader-of-requires c κs = search needs
 
 read-turn-requires : tie.Need-read-turn-requires
 read-turn-requires c κs = search needs
@@ -24,11 +19,10 @@ same-length c = search needs
 returns : tie.Need-returns
 returns c =
     let m = c .before .before .before in
-    let a = m .before .before .before .before .before .args in
-    let e = m .read-turn .ensures ∙ ap (λ (x : Reader). turnOf x (a .blocks .now) (a .asked) (a .output .now)) (m .before .before .reader-of .ensures) in
+    let e = m .read-turn .ensures in
     (c .turn-answer .ensures ∙ ap (λ (x : Turn × List ℕ). turnAnswer (x .0)) e, ap (λ (x : Turn × List ℕ). x .1) e)
 
 pub dock-read-turn-spec : {M : Type 1} → statement M
 dock-read-turn-spec =
     tie.close
-    (tie.spec reader-of-requires read-turn-requires turn-answer-requires same-length returns)
+    (tie.spec read-turn-requires turn-answer-requires same-length returns)

@@ -5,11 +5,8 @@ use Rattle.dock.proofs.turn_answer.Tie as tie
 how-stopped-requires : tie.Need-how-stopped-requires
 how-stopped-requires c κs = search needs
 
-state-of-requires : tie.Need-state-of-requires
-state-of-requires c κs = search needs
-
 returns : tie.Need-returns
-returns c = rw (c .state-of .ensures, c .before .how-stopped .ensures)
+returns c = rw (c .how-stopped .ensures)
 
 pub turn-answer-spec : {M : Type 1} → statement M
-turn-answer-spec = tie.close (tie.spec how-stopped-requires state-of-requires returns)
+turn-answer-spec = tie.close (tie.spec how-stopped-requires returns)

@@ -1,5 +1,5 @@
 use mathlib.Core.Bool.{not}
-use borrow.Author.Tests.{eq-eqb, ne-eqb, lt-ltb, le-ltb}
+use borrow.Author.Tests.{eq-eqb, ne-eqb}
 use Rattle.header.specs.Rules.{headTests}
 use Rattle.header.proofs.Order.{hit, miss, through}
 use mathlib.Core.Path.{sym, ap, _∙_}
@@ -50,31 +50,16 @@ returns-4 c =
     (miss _ _ _ _ (sym (d .before .differs .ensures) ∙ p3 .if3 .left)
     (hit _ _ _ (sym (d .differs2 .ensures) ∙ c .if4 .taken))))
 
-returns-5 : tie.Need-returns-5
-unfolding headTests
-returns-5 c =
-    let p4 = c .before in
-    let p3 = p4 .before in
-    let p2 = p3 .before in
-    let p1 = p2 .before in
-    let d = p1 .before .before in
-    miss _ _ _ _ (sym (ap not (p1 .before .count-fits .ensures)) ∙ p1 .if1 .left)
-    (miss _ _ _ _ (p2 .if2 .left)
-    (miss _ _ _ _ (sym (d .before .differs .ensures) ∙ p3 .if3 .left)
-    (miss _ _ _ _ (sym (d .differs2 .ensures) ∙ p4 .if4 .left)
-    (hit _ _ _ (ap not (le-ltb _ _ (c .if5 .taken)))))))
-
 cast-length-fits : tie.Need-cast-length-fits
 cast-length-fits c = search needs
 
 length-fits-requires : tie.Need-length-fits-requires
 length-fits-requires c κs = search needs
 
-returns-6 : tie.Need-returns-6
+returns-5 : tie.Need-returns-5
 unfolding headTests
-returns-6 c =
-    let p5 = c .before .before in
-    let p4 = p5 .before in
+returns-5 c =
+    let p4 = c .before .before in
     let p3 = p4 .before in
     let p2 = p3 .before in
     let p1 = p2 .before in
@@ -83,15 +68,29 @@ returns-6 c =
     (miss _ _ _ _ (p2 .if2 .left)
     (miss _ _ _ _ (sym (d .before .differs .ensures) ∙ p3 .if3 .left)
     (miss _ _ _ _ (sym (d .differs2 .ensures) ∙ p4 .if4 .left)
-    (miss _ _ _ _ (ap not (lt-ltb _ _ (p5 .if5 .left)))
-    (hit _ _ _ (sym (ap not (c .before .length-fits .ensures)) ∙ c .if6 .taken))))))
+    (hit _ _ _ (sym (ap not (c .before .length-fits .ensures)) ∙ c .if5 .taken)))))
+
+returns-6 : tie.Need-returns-6
+unfolding headTests
+returns-6 c =
+    let p5 = c .before in
+    let p4 = p5 .before .before in
+    let p3 = p4 .before in
+    let p2 = p3 .before in
+    let p1 = p2 .before in
+    let d = p1 .before .before in
+    miss _ _ _ _ (sym (ap not (p1 .before .count-fits .ensures)) ∙ p1 .if1 .left)
+    (miss _ _ _ _ (p2 .if2 .left)
+    (miss _ _ _ _ (sym (d .before .differs .ensures) ∙ p3 .if3 .left)
+    (miss _ _ _ _ (sym (d .differs2 .ensures) ∙ p4 .if4 .left)
+    (miss _ _ _ _ (sym (ap not (p5 .before .length-fits .ensures)) ∙ p5 .if5 .left)
+    (hit _ _ _ (ap not (ne-eqb _ _ (c .if6 .taken))))))))
 
 returns-7 : tie.Need-returns-7
 unfolding headTests
 returns-7 c =
-    let p6 = c .before in
-    let p5 = p6 .before .before in
-    let p4 = p5 .before in
+    let p5 = c .before in
+    let p4 = p5 .before .before in
     let p3 = p4 .before in
     let p2 = p3 .before in
     let p1 = p2 .before in
@@ -100,28 +99,9 @@ returns-7 c =
     (miss _ _ _ _ (p2 .if2 .left)
     (miss _ _ _ _ (sym (d .before .differs .ensures) ∙ p3 .if3 .left)
     (miss _ _ _ _ (sym (d .differs2 .ensures) ∙ p4 .if4 .left)
-    (miss _ _ _ _ (ap not (lt-ltb _ _ (p5 .if5 .left)))
-    (miss _ _ _ _ (sym (ap not (p6 .before .length-fits .ensures)) ∙ p6 .if6 .left)
-    (hit _ _ _ (ap not (ne-eqb _ _ (c .if7 .taken)))))))))
-
-returns-8 : tie.Need-returns-8
-unfolding headTests
-returns-8 c =
-    let p6 = c .before in
-    let p5 = p6 .before .before in
-    let p4 = p5 .before in
-    let p3 = p4 .before in
-    let p2 = p3 .before in
-    let p1 = p2 .before in
-    let d = p1 .before .before in
-    miss _ _ _ _ (sym (ap not (p1 .before .count-fits .ensures)) ∙ p1 .if1 .left)
-    (miss _ _ _ _ (p2 .if2 .left)
-    (miss _ _ _ _ (sym (d .before .differs .ensures) ∙ p3 .if3 .left)
-    (miss _ _ _ _ (sym (d .differs2 .ensures) ∙ p4 .if4 .left)
-    (miss _ _ _ _ (ap not (lt-ltb _ _ (p5 .if5 .left)))
-    (miss _ _ _ _ (sym (ap not (p6 .before .length-fits .ensures)) ∙ p6 .if6 .left)
-    (miss _ _ _ _ (ap not (eq-eqb _ _ (c .if7 .left)))
-    through))))))
+    (miss _ _ _ _ (sym (ap not (p5 .before .length-fits .ensures)) ∙ p5 .if5 .left)
+    (miss _ _ _ _ (ap not (eq-eqb _ _ (c .if6 .left)))
+    through)))))
 
 pub judge-head-spec : {M : Type 1} → statement M
 judge-head-spec =
@@ -134,9 +114,8 @@ judge-head-spec =
     returns-2
     returns-3
     returns-4
-    returns-5
     cast-length-fits
     length-fits-requires
+    returns-5
     returns-6
-    returns-7
-    returns-8)
+    returns-7)

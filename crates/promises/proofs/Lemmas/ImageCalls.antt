@@ -115,7 +115,7 @@ pub start-zeros : (ekey ckey : List ℕ) → keyNumber (startOf ekey ckey .answe
     → startOf ekey ckey .reader ≡ record {
       enc = record { words = replicate 60 0; rounds = 0 };
       chk = record { words = replicate 60 0; rounds = 0 };
-      progress = record { next = 0; fixed = false; count = 0; release = 0 };
+      progress = record { next = 0; count = 0; release = 0 };
     }
 unfolding startOf
 start-zeros ekey ckey h = go (bothTaken (scheduleOf sBox ekey) (scheduleOf sBox ckey)) refl h
@@ -124,7 +124,7 @@ start-zeros ekey ckey h = go (bothTaken (scheduleOf sBox ekey) (scheduleOf sBox 
         → startedBy (scheduleOf sBox ekey) (scheduleOf sBox ckey) .reader ≡ record {
           enc = record { words = replicate 60 0; rounds = 0 };
           chk = record { words = replicate 60 0; rounds = 0 };
-          progress = record { next = 0; fixed = false; count = 0; release = 0 };
+          progress = record { next = 0; count = 0; release = 0 };
         }
     go true e q =
         let w : _≡_ {A = ℕ} 0 1 = rw e at q in

@@ -6,7 +6,7 @@ use mathlib.Core.List.{List, [], _∷_, _++_}
 use Prim.Native.Nat.{ℕ, zero, suc, _+_, _-_, _%_, _≤_, _<_}
 use native.Mathlib.Nat.{eq-or-lt-of-le}
 use native.Mathlib.Omega.{arith}
-use borrow.Author.Tests.{eqb-true, eqb-false, eq-eqb, ne-eqb, ltb-true, ltb-false, lt-ltb, le-ltb, leb-true, le-leb, not-true, not-false}
+use borrow.Author.Tests.{eqb-true, eqb-false, eq-eqb, ne-eqb, ltb-true, ltb-false, lt-ltb, leb-true, leb-false, le-leb, not-true, not-false}
 use lib.Dec.{eqb, ltb, leb}
 use lib.ListN.{length, take, drop, length-drop, take-append-drop}
 use lib.Seq.{length-take-le, take-add}
@@ -18,11 +18,11 @@ use Rattle.sp800_38a.specs.declared.Operation.the-variants.{CbcEncrypt, CbcDecr
 use Rattle.sp800_38a.proofs.Sixteen.{length-16, undone-16, bytes-16}
 use Rattle.sp800_38b.specs.Cmac.{cmac, SameOutside}
 use Rattle.header.specs.Layout.{headOf}
-use Rattle.header.specs.Rules.{firstOf, done, countFits, lengthFits, headTests}
+use Rattle.header.specs.Rules.{firstOf, closed, countFits, lengthFits, headTests}
 use Rattle.header.specs.declared.Head.{Head}
 use Rattle.header.specs.declared.Progress.{Progress}
 use Rattle.header.specs.declared.Reason.{Reason}
-use Rattle.header.specs.declared.Reason.the-variants.{AfterLast, CheckWrong, Count, Number, OtherCount, OtherRelease, NotBelow, Length, Reserved, FillNotZero}
+use Rattle.header.specs.declared.Reason.the-variants.{AfterLast, CheckWrong, Count, Number, OtherCount, OtherRelease, Length, Reserved, FillNotZero}
 use Rattle.header.specs.declared.Verdict.{Verdict}
 use Rattle.header.specs.declared.Verdict.the-variants.{Accepted, Refused}
 use Rattle.header.proofs.Laws.{Wide, head-bytes}
@@ -63,8 +63,28 @@ fits-count n l h = rw (lt-ltb 0 n l) (le-leb n 65535 h)
 
 -- ---- what the tests ask of a header
 
+-- 16 in words
+closed-says : (s : Progress) → closed s ≡ true → (0 < s .next) × (s .count ≤ s .next)
+unfolding closed
+closed-says s e = let a = and-true (ltb 0 (s .next)) (leb (s .count) (s .next)) e in (ltb-true 0 (s .next) (a .0), leb-true (s .count) (s .next) (a .1))
+
+says-closed : (s : Progress) → 0 < s .next → s .count ≤ s .next → closed s ≡ true
+unfolding closed
+says-closed s l h = rw (lt-ltb 0 (s .next) l) (le-leb (s .count) (s .next) h)
+
+open-within : (s : Progress) → closed s ≡ false → 0 < s .next → s .next < s .count
+unfolding closed
+open-within s e l = leb-false (s .count) (s .next) (rest (ltb 0 (s .next)) (leb (s .count) (s .next)) e (lt-ltb 0 (s .next) l))
+  where
+    rest : (a b : Bool) → (a && b) ≡ false → a ≡ true → b ≡ false
+    rest true b q f = q
+    rest false b q f = let z : _≡_ {A = ℕ} 0 1 = cc in absurd (omega arith)
+
+within-open : (s : Progress) → (0 < s .next → s .next < s .count) → closed s ≡ false
+within-open s f = either (closed s) (λ e. let c = closed-says s e in let l = f (c .0) in omega (arith, c .1))
+
 abbrev asked : (mark : ℕ) → Progress → Head → (check fill : Bool) → List (Bool × Reason)
-asked mark s h check fill = (done s, AfterLast) ∷ (not check, CheckWrong) ∷ (headTests mark s h ++ ((not fill, FillNotZero) ∷ []))
+asked mark s h check fill = (closed s, AfterLast) ∷ (not check, CheckWrong) ∷ (headTests mark s h ++ ((not fill, FillNotZero) ∷ []))
 
 asked-right : (mark : ℕ) (s : Progress) (h : Head) (check fill : Bool) → firstOf (asked mark s h check fill) ≡ Accepted → Right mark s h × (check ≡ true) × (fill ≡ true)
 unfolding headTests
@@ -72,33 +92,32 @@ asked-right mark s h check fill e =
     let a = all-false (asked mark s h check fill) e in
     let c = count-fits (h .count) (not-false (countFits (h .count)) (a .1 .1 .0)) in (
       record {
+        still-open = open-within s (a .0);
         count-low = c .0;
         count-high = c .1;
         expected = eqb-true (h .number) (s .next) (not-false (eqb (h .number) (s .next)) (a .1 .1 .1 .0));
-        same-count = λ f. eqb-true (h .count) (s .count) (and-imp (s .fixed) (eqb (h .count) (s .count)) (a .1 .1 .1 .1 .0) f);
-        same-release = λ f. eqb-true (h .release) (s .release) (and-imp (s .fixed) (eqb (h .release) (s .release)) (a .1 .1 .1 .1 .1 .0) f);
-        below = ltb-true (h .number) (h .count) (not-false (ltb (h .number) (h .count)) (a .1 .1 .1 .1 .1 .1 .0));
-        len-fits = not-false (lengthFits (h .number) (h .count) (h .len)) (a .1 .1 .1 .1 .1 .1 .1 .0);
-        marked = eqb-true (h .reserved) mark (not-false (eqb (h .reserved) mark) (a .1 .1 .1 .1 .1 .1 .1 .1 .0));
+        same-count = λ f. eqb-true (h .count) (s .count) (and-imp (ltb 0 (s .next)) (eqb (h .count) (s .count)) (a .1 .1 .1 .1 .0) (lt-ltb 0 (s .next) f));
+        same-release = λ f. eqb-true (h .release) (s .release) (and-imp (ltb 0 (s .next)) (eqb (h .release) (s .release)) (a .1 .1 .1 .1 .1 .0) (lt-ltb 0 (s .next) f));
+        len-fits = not-false (lengthFits (h .number) (h .count) (h .len)) (a .1 .1 .1 .1 .1 .1 .0);
+        marked = eqb-true (h .reserved) mark (not-false (eqb (h .reserved) mark) (a .1 .1 .1 .1 .1 .1 .1 .0));
       },
       not-false check (a .1 .0),
-      not-false fill (a .1 .1 .1 .1 .1 .1 .1 .1 .1 .0),
+      not-false fill (a .1 .1 .1 .1 .1 .1 .1 .1 .0),
     )
 
--- right headers come from a state that is not complete
-right-open : (mark : ℕ) (s : Progress) (h : Head) → Right mark s h → done s ≡ false
-unfolding done
-right-open mark s h r = go (s .fixed) refl
+-- hence their number is below their count
+pub right-below : (mark : ℕ) (s : Progress) (h : Head) → Right mark s h → h .number < h .count
+right-below mark s h r = go (ltb 0 (s .next)) refl
   where
-    go : (t : Bool) → s .fixed ≡ t → (t && eqb (s .next) (s .count)) ≡ false
-    go true e = ne-eqb (s .next) (s .count) (λ q. omega (arith, r .expected, r .same-count e, r .below))
-    go false e = refl
+    go : (t : Bool) → ltb 0 (s .next) ≡ t → h .number < h .count
+    go true e = let l = ltb-true 0 (s .next) e in omega (arith, r .expected, r .still-open l, r .same-count l)
+    go false e = omega (arith, r .expected, ltb-false 0 (s .next) e, r .count-low)
 
 right-asked : (mark : ℕ) (s : Progress) (h : Head) (check fill : Bool) → Right mark s h → check ≡ true → fill ≡ true → firstOf (asked mark s h check fill) ≡ Accepted
 unfolding headTests
 right-asked mark s h check fill r c f =
     all-accepted (asked mark s h check fill) (
-      right-open mark s h r,
+      within-open s (r .still-open),
       (
         ap not c,
         (
@@ -106,17 +125,14 @@ right-asked mark s h check fill r c f =
           (
             ap not (eq-eqb (h .number) (s .next) (r .expected)),
             (
-              imp-and (s .fixed) (eqb (h .count) (s .count)) (λ e. eq-eqb (h .count) (s .count) (r .same-count e)),
+              imp-and (ltb 0 (s .next)) (eqb (h .count) (s .count)) (λ e. eq-eqb (h .count) (s .count) (r .same-count (ltb-true 0 (s .next) e))),
               (
-                imp-and (s .fixed) (eqb (h .release) (s .release)) (λ e. eq-eqb (h .release) (s .release) (r .same-release e)),
+                imp-and (ltb 0 (s .next)) (eqb (h .release) (s .release)) (λ e. eq-eqb (h .release) (s .release) (r .same-release (ltb-true 0 (s .next) e))),
                 (
-                  ap not (lt-ltb (h .number) (h .count) (r .below)),
+                  ap not (r .len-fits),
                   (
-                    ap not (r .len-fits),
-                    (
-                      ap not (eq-eqb (h .reserved) mark (r .marked)),
-                      (ap not f, tt),
-                    ),
+                    ap not (eq-eqb (h .reserved) mark (r .marked)),
+                    (ap not f, tt),
                   ),
                 ),
               ),
@@ -212,7 +228,7 @@ module _ (k : Keys) (ed : Edition) (s : Standing) (b : List ℕ) where
       let h = headOf b in
       let p = s .progress in (
         refl,
-        λ e. e,
+        λ e. closed-says p e,
         (
           refl,
           λ e. not-true (k .usable && checks (k .mac) (ed .tail (s .last)) b) e,
@@ -224,21 +240,17 @@ module _ (k : Keys) (ed : Edition) (s : Standing) (b : List ℕ) where
               λ e. (refl, eqb-false (h .number) (p .next) (not-true (eqb (h .number) (p .next)) e)),
               (
                 refl,
-                λ e. let a = and-true (p .fixed) (not (eqb (h .count) (p .count))) e in (refl, a .0, eqb-false (h .count) (p .count) (not-true (eqb (h .count) (p .count)) (a .1))),
+                λ e. let a = and-true (ltb 0 (p .next)) (not (eqb (h .count) (p .count))) e in (refl, ltb-true 0 (p .next) (a .0), eqb-false (h .count) (p .count) (not-true (eqb (h .count) (p .count)) (a .1))),
                 (
                   refl,
-                  λ e. let a = and-true (p .fixed) (not (eqb (h .release) (p .release))) e in (refl, a .0, eqb-false (h .release) (p .release) (not-true (eqb (h .release) (p .release)) (a .1))),
+                  λ e. let a = and-true (ltb 0 (p .next)) (not (eqb (h .release) (p .release))) e in (refl, ltb-true 0 (p .next) (a .0), eqb-false (h .release) (p .release) (not-true (eqb (h .release) (p .release)) (a .1))),
                   (
                     refl,
-                    λ e. (refl, ltb-false (h .number) (h .count) (not-true (ltb (h .number) (h .count)) e)),
+                    λ e. (refl, not-true (lengthFits (h .number) (h .count) (h .len)) e),
                     (
                       refl,
-                      λ e. (refl, not-true (lengthFits (h .number) (h .count) (h .len)) e),
-                      (
-                        refl,
-                        λ e. (refl, eqb-false (h .reserved) (ed .mark) (not-true (eqb (h .reserved) (ed .mark)) e)),
-                        (refl, λ e. not-true (fillZero (k .enc) b) e, tt),
-                      ),
+                      λ e. (refl, eqb-false (h .reserved) (ed .mark) (not-true (eqb (h .reserved) (ed .mark)) e)),
+                      (refl, λ e. not-true (fillZero (k .enc) b) e, tt),
                     ),
                   ),
                 ),
@@ -251,13 +263,12 @@ module _ (k : Keys) (ed : Edition) (s : Standing) (b : List ℕ) where
   -- a row that holds is a test that does
   row-test : (q : Reason) → Row k ed s b q → 0 ≤ rank q → testAt (tests k ed s b) (rank q - 0) ≡ true
   unfolding testAt headTests
-  row-test AfterLast x h = x
+  row-test AfterLast x h = says-closed (s .progress) (x .0) (x .1)
   row-test CheckWrong x h = ap not x
   row-test (Count v) x h = ap not (either (countFits (headOf b .count)) (λ e. let c = count-fits (headOf b .count) e in x .1 (omega (arith, x .0, c .0)) (omega (arith, x .0, c .1))))
   row-test (Number v) x h = ap not (ne-eqb (headOf b .number) (s .progress .next) (λ e. x .1 (x .0 ∙ e)))
-  row-test (OtherCount v) x h = rw (x .1) (ap not (ne-eqb (headOf b .count) (s .progress .count) (λ e. x .2 (x .0 ∙ e))))
-  row-test (OtherRelease v) x h = rw (x .1) (ap not (ne-eqb (headOf b .release) (s .progress .release) (λ e. x .2 (x .0 ∙ e))))
-  row-test (NotBelow v) x h = ap not (le-ltb (headOf b .number) (headOf b .count) (omega (arith, x .0, x .1)))
+  row-test (OtherCount v) x h = rw (lt-ltb 0 (s .progress .next) (x .1)) (ap not (ne-eqb (headOf b .count) (s .progress .count) (λ e. x .2 (x .0 ∙ e))))
+  row-test (OtherRelease v) x h = rw (lt-ltb 0 (s .progress .next) (x .1)) (ap not (ne-eqb (headOf b .release) (s .progress .release) (λ e. x .2 (x .0 ∙ e))))
   row-test (Length v) x h = ap not (ap (lengthFits (headOf b .number) (headOf b .count)) (sym (x .0)) ∙ x .1)
   row-test (Reserved v) x h = ap not (ne-eqb (headOf b .reserved) (ed .mark) (λ e. x .1 (x .0 ∙ e)))
   row-test FillNotZero x h = ap not x

@@ -76,12 +76,12 @@ module _ (ekey ckey : List ℕ) (number count release : ℕ) (payload b : List �
       ap₂ (λ (k : Keys) (x : List ℕ). judge k one (standing s) x) (keys-are s) is-sealed
       ∙ sealed-accepted (aesOf ekey) (aesOf ckey) lawful-enc lawful-chk one (standing s) head payload none (w .payload-bytes) refl wide
       (record {
+        still-open = λ l. omega (arith, a .next-number, a .same-count l, fit .below);
         count-low = fit .count-low;
         count-high = fit .count-high;
         expected = a .next-number;
         same-count = a .same-count;
         same-release = a .same-release;
-        below = fit .below;
         len-fits = fit .len-fits;
         marked = refl;
       })

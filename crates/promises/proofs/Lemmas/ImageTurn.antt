@@ -243,28 +243,28 @@ module _ (k : Keys) (ed : Edition) where
 
   -- ---- count and release
 
-  still-fixed : (s : Standing) (bs : List (List ℕ)) → s .progress .fixed ≡ true
-      → (readBlocks reader s bs .standing .progress .fixed ≡ true) × (readBlocks reader s bs .standing .progress .count ≡ s .progress .count) × (readBlocks reader s bs .standing .progress .release ≡ s .progress .release)
+  still-fixed : (s : Standing) (bs : List (List ℕ)) → 0 < s .progress .next
+      → (0 < readBlocks reader s bs .standing .progress .next) × (readBlocks reader s bs .standing .progress .count ≡ s .progress .count) × (readBlocks reader s bs .standing .progress .release ≡ s .progress .release)
   unfolding readBlocks
   still-fixed s [] f = (f, refl, refl)
   still-fixed s (b ∷ bs) f =
       by-verdict reader s b bs
-      (λ (t : Reading). (t .standing .progress .fixed ≡ true) × (t .standing .progress .count ≡ s .progress .count) × (t .standing .progress .release ≡ s .progress .release))
+      (λ (t : Reading). (0 < t .standing .progress .next) × (t .standing .progress .count ≡ s .progress .count) × (t .standing .progress .release ≡ s .progress .release))
       (λ e.
-      let ih = still-fixed (taken s b) bs refl in
+      let ih = still-fixed (taken s b) bs (omega arith) in
       let m = accepted-met k ed s b e .head-right in
       (ih .0, ih .1 ∙ m .same-count f, ih .2 ∙ m .same-release f))
       (λ r e. (f, refl, refl))
 
   -- the first accepted block fixes them, for all that follow
   pub first-fixes : (s : Standing) (b : List ℕ) (bs : List (List ℕ)) → 0 < readBlocks reader s (b ∷ bs) .accepted
-      → (readBlocks reader s (b ∷ bs) .standing .progress .fixed ≡ true)
+      → (0 < readBlocks reader s (b ∷ bs) .standing .progress .next)
       × (readBlocks reader s (b ∷ bs) .standing .progress .count ≡ headOf b .count) × (readBlocks reader s (b ∷ bs) .standing .progress .release ≡ headOf b .release)
   first-fixes s b bs =
       by-verdict reader s b bs
       (λ (t : Reading). 0 < t .accepted
-      → (t .standing .progress .fixed ≡ true) × (t .standing .progress .count ≡ headOf b .count) × (t .standing .progress .release ≡ headOf b .release))
-      (λ e h. still-fixed (taken s b) bs refl) (λ r e h. absurd (omega arith))
+      → (0 < t .standing .progress .next) × (t .standing .progress .count ≡ headOf b .count) × (t .standing .progress .release ≡ headOf b .release))
+      (λ e h. still-fixed (taken s b) bs (omega arith)) (λ r e h. absurd (omega arith))
 
   -- without usable keys none is accepted
   pub no-keys-none : k .usable ≡ false → (s : Standing) (bs : List (List ℕ)) → readBlocks reader s bs .accepted ≡ 0

@@ -132,31 +132,31 @@ module _ (ed : Edition) (pe : Proper ed) (ek ck : BlockCipher) (le : Lawful 16 e
         ap₂ (λ (m : ℕ) (x : List ℕ). take m x) (ap (λ (x : Head). x .len) (block-head h)) (sealed-opened ek ck le lc (headFor ed n N R (length (take 480 p))) (take 480 p) small (take-bytes 480 p bp) (ed .tail last) tail-is)
         ∙ filled-payload (take 480 p) (length (take 480 p)) refl
 
-  written-passes : (n : ℕ) (s : Standing) (p : List ℕ) → Octets 16 (s .last) → s .progress .next + n ≡ N → (n ≡ 0 → s .progress .fixed ≡ true) → (s .progress .fixed ≡ true → N ≡ s .progress .count)
-      → (s .progress .fixed ≡ true → R ≡ s .progress .release) → Bytes p → Left N (s .progress .next) p → Passes keys ed s (written ed ek ck N R (s .last) (s .progress .next) n p)
+  written-passes : (n : ℕ) (s : Standing) (p : List ℕ) → Octets 16 (s .last) → s .progress .next + n ≡ N → (n ≡ 0 → 0 < s .progress .next) → (0 < s .progress .next → N ≡ s .progress .count)
+      → (0 < s .progress .next → R ≡ s .progress .release) → Bytes p → Left N (s .progress .next) p → Passes keys ed s (written ed ek ck N R (s .last) (s .progress .next) n p)
   unfolding written done
   written-passes zero s p ol hn hf hc hr bp t =
       let f = hf refl in
       let e : eqb (s .progress .next) (s .progress .count) ≡ true = eq-eqb (s .progress .next) (s .progress .count) (omega (arith, hc f)) in
-      rw (f, e) refl
+      rw (lt-ltb 0 (s .progress .next) f, e) refl
   written-passes (suc n) s p ol hn hf hc hr bp t =
       let next = s .progress .next in
       let below : next < N = omega arith in
       let h = headFor ed next N R (length (take 480 p)) in
       let b = block (s .last) ol next p bp in
       let right : Right (ed .mark) (s .progress) h = record {
+        still-open = λ l. omega (arith, hc l);
         count-low = omega arith;
         count-high = hN;
         expected = refl;
         same-count = hc;
         same-release = hr;
-        below = below;
         len-fits = left-fits N next p below t;
         marked = refl;
       } in
       let eh : headOf b ≡ h = block-head (s .last) ol next p bp below in (
         sealed-accepted ek ck le lc ed s h (take 480 p) (tail-is (s .last) ol next p bp) (take-bytes 480 p bp) refl (wide next p below) right,
-        written-passes n (taken s b) (drop 480 p) (check-octets (s .last) ol next p bp) (omega arith) (λ e. refl) (λ e. sym (ap (λ (x : Head). x .count) eh)) (λ e. sym (ap (λ (x : Head). x .release) eh))
+        written-passes n (taken s b) (drop 480 p) (check-octets (s .last) ol next p bp) (omega arith) (λ e. omega arith) (λ e. sym (ap (λ (x : Head). x .count) eh)) (λ e. sym (ap (λ (x : Head). x .release) eh))
             (drop-bytes 480 p bp) (left-drop N next p below t),
       )
 
@@ -222,4 +222,4 @@ module _ (ed : Edition) (pe : Proper ed) (ek ck : BlockCipher) (le : Lawful 16 e
   pub image-passes : Passes (record { enc = ek; mac = cmac ck; usable = true }) ed fresh (image ed ek ck R p)
   image-passes =
       written-passes ed pe ek ck le lc (blocks p) R few hR (blocks p) fresh p no-check-octets (zero-add (blocks p)) (λ e. absurd (omega arith))
-      (λ e. let z : _≡_ {A = ℕ} 0 1 = cc in omega arith) (λ e. let z : _≡_ {A = ℕ} 0 1 = cc in omega arith) bp (left-all p)
+      (λ e. absurd (omega arith)) (λ e. absurd (omega arith)) bp (left-all p)

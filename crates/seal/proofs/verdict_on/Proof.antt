@@ -8,13 +8,13 @@ use borrow.Author.Needs.{needs}
 use Rattle.seal.proofs.verdict_on.Statement.{statement}
 use Rattle.seal.proofs.verdict_on.Tie as tie
 
-complete-requires : tie.Need-complete-requires
-complete-requires c κs = search needs
+closed-requires : tie.Need-closed-requires
+closed-requires c κs = search needs
 
 returns : tie.Need-returns
 returns c =
     let a = c .before .before .before .args in
-    judged-last (lentKeys (a .forth .now) (a .back .now) (a .ewords .now) (a .dwords .now) (a .cwords .now) (a .key1 .now) (a .key2 .now) (a .rounds)) one (standing (a .progress)) (a .block .now) (sym (c .before .complete .ensures) ∙ c .if1 .taken)
+    judged-last (lentKeys (a .forth .now) (a .back .now) (a .ewords .now) (a .dwords .now) (a .cwords .now) (a .key1 .now) (a .key2 .now) (a .rounds)) one (standing (a .progress)) (a .block .now) (sym (c .before .closed .ensures) ∙ c .if1 .taken)
 
 slice-aggregate-check-holds : tie.Need-slice-aggregate-check-holds
 slice-aggregate-check-holds c = search needs
@@ -27,7 +27,7 @@ returns-2 c =
     let d = c .before .before .before in
     let a = d .before .before .before .args in
     judged-check (lentKeys (a .forth .now) (a .back .now) (a .ewords .now) (a .dwords .now) (a .cwords .now) (a .key1 .now) (a .key2 .now) (a .rounds)) one (standing (a .progress)) (a .block .now)
-    (sym (d .before .complete .ensures) ∙ d .if1 .left) (sym (c .before .check-holds .ensures) ∙ flip _ (c .if2 .taken))
+    (sym (d .before .closed .ensures) ∙ d .if1 .left) (sym (c .before .check-holds .ensures) ∙ flip _ (c .if2 .taken))
 
 judge-head-requires : tie.Need-judge-head-requires
 judge-head-requires c κs = search needs
@@ -46,7 +46,7 @@ returns-3 c =
     let s = d .before .before .before in
     let a = s .args in
     judged-head (lentKeys (a .forth .now) (a .back .now) (a .ewords .now) (a .dwords .now) (a .cwords .now) (a .key1 .now) (a .key2 .now) (a .rounds)) one (standing (a .progress)) (a .block .now)
-    (sym (d .before .complete .ensures) ∙ d .if1 .left) (sym (m .before .check-holds .ensures) ∙ flip _ (m .if2 .left))
+    (sym (d .before .closed .ensures) ∙ d .if1 .left) (sym (m .before .check-holds .ensures) ∙ flip _ (m .if2 .left))
     (mac-sized (a .forth .now) (a .cwords .now) (a .rounds .chk) (a .key1 .now) (a .key2 .now)) (a .head) (s .pre) _ _ (h .judge-head .ensures) (c .enum-told2 .given .1)
 
 cast-len : tie.Need-cast-len
@@ -64,7 +64,7 @@ returns-4 c =
     let s = d .before .before .before in
     let a = s .args in
     judged-fill (lentKeys (a .forth .now) (a .back .now) (a .ewords .now) (a .dwords .now) (a .cwords .now) (a .key1 .now) (a .key2 .now) (a .rounds)) one (standing (a .progress)) (a .block .now)
-    (sym (d .before .complete .ensures) ∙ d .if1 .left) (sym (m .before .check-holds .ensures) ∙ flip _ (m .if2 .left))
+    (sym (d .before .closed .ensures) ∙ d .if1 .left) (sym (m .before .check-holds .ensures) ∙ flip _ (m .if2 .left))
     (mac-sized (a .forth .now) (a .cwords .now) (a .rounds .chk) (a .key1 .now) (a .key2 .now)) (a .head) (s .pre) (sym (t .enum-told .given .1) ∙ h .judge-head .ensures) (sym (c .before .fill-is-zero .ensures) ∙ flip _ (c .if3 .taken))
 
 returns-5 : tie.Need-returns-5
@@ -77,14 +77,14 @@ returns-5 c =
     let a = s .args in
     t .enum-told .given .1
     ∙ judged-passed (lentKeys (a .forth .now) (a .back .now) (a .ewords .now) (a .dwords .now) (a .cwords .now) (a .key1 .now) (a .key2 .now) (a .rounds)) one (standing (a .progress)) (a .block .now)
-    (sym (d .before .complete .ensures) ∙ d .if1 .left) (sym (m .before .check-holds .ensures) ∙ flip _ (m .if2 .left))
+    (sym (d .before .closed .ensures) ∙ d .if1 .left) (sym (m .before .check-holds .ensures) ∙ flip _ (m .if2 .left))
     (mac-sized (a .forth .now) (a .cwords .now) (a .rounds .chk) (a .key1 .now) (a .key2 .now)) (a .head) (s .pre) (sym (t .enum-told .given .1) ∙ h .judge-head .ensures) (sym (c .before .fill-is-zero .ensures) ∙ flip _ (c .if3 .left))
 
 pub verdict-on-spec : {M : Type 1} → statement M
 verdict-on-spec =
     tie.close
     (tie.spec
-    complete-requires
+    closed-requires
     returns
     slice-aggregate-check-holds
     check-holds-requires

@@ -17,17 +17,14 @@ enum-known-self-4 c = search needs
 enum-known-self-5 : tie.Need-enum-known-self-5
 enum-known-self-5 c = search needs
 
+cast-t9 : tie.Need-cast-t9
+cast-t9 c = search needs
+
 enum-known-self-6 : tie.Need-enum-known-self-6
 enum-known-self-6 c = search needs
 
 cast-t10 : tie.Need-cast-t10
 cast-t10 c = search needs
-
-enum-known-self-7 : tie.Need-enum-known-self-7
-enum-known-self-7 c = search needs
-
-cast-t11 : tie.Need-cast-t11
-cast-t11 c = search needs
 
 enum-told : tie.Need-enum-told
 enum-told c = search needs
@@ -57,16 +54,13 @@ returns-6 : tie.Need-returns-6
 returns-6 c = rw (c .before .self6 .given .1)
 
 returns-7 : tie.Need-returns-7
-returns-7 c = rw (c .before .self7 .given .1)
+returns-7 c = search needs
 
 returns-8 : tie.Need-returns-8
 returns-8 c = search needs
 
 returns-9 : tie.Need-returns-9
 returns-9 c = search needs
-
-returns-10 : tie.Need-returns-10
-returns-10 c = search needs
 
 pub value-spec : {M : Type 1} → statement M
 value-spec =
@@ -77,10 +71,9 @@ value-spec =
     enum-known-self-3
     enum-known-self-4
     enum-known-self-5
+    cast-t9
     enum-known-self-6
     cast-t10
-    enum-known-self-7
-    cast-t11
     enum-told
     enum-told-2
     enum-told-3
@@ -92,5 +85,4 @@ value-spec =
     returns-6
     returns-7
     returns-8
-    returns-9
-    returns-10)
+    returns-9)
