@@ -24,12 +24,12 @@ use Rattle.sp800_38a.proofs.Undo.{ChainOf, keeps, whole}
 use Rattle.sp800_38a.proofs.Same.{moded-same}
 use Rattle.sp800_38b.specs.Cmac.{key1, key2, cmac, cmacBy}
 use Rattle.sp800_38b.proofs.Same.{cmac-same, cmac-by}
-use Rattle.header.specs.Layout.{headBytes}
+use Rattle.layout.specs.Layout.{headBytes}
 use Rattle.header.specs.Rules.{firstOf, closed}
-use Rattle.header.specs.declared.Head.{Head}
+use Rattle.layout.specs.declared.Head.{Head}
 use Rattle.header.specs.declared.Reason.the-variants.{AfterLast, CheckWrong}
 use Rattle.header.specs.declared.Verdict.the-variants.{Accepted, Refused}
-use Rattle.header.proofs.Laws.{head-octets}
+use Rattle.layout.proofs.Laws.{head-octets}
 use Rattle.header.proofs.Order.{all-false}
 use Rattle.format.specs.Edition.{Edition}
 use Rattle.format.specs.Sealed.{filled, front, sealed, opened, checks, zeroAfter}

@@ -12,15 +12,16 @@ use Rattle.octets.specs.Octets.{same}
 use Rattle.blocks.specs.Blocks.{blockAt}
 use Rattle.blocks.proofs.Laws.{block-at}
 use Rattle.schedule.specs.Schedule.{roundCount}
-use Rattle.header.specs.Layout.{headOf}
+use Rattle.layout.specs.Layout.{headOf}
 use Rattle.header.specs.Rules.{firstOf, closed, countFits, headTests}
-use Rattle.header.specs.declared.Head.{Head}
+use Rattle.layout.specs.declared.Head.{Head}
 use Rattle.header.specs.declared.Reason.{Reason}
 use Rattle.header.specs.declared.Reason.the-variants.{AfterLast, CheckWrong, FillNotZero}
 use Rattle.header.specs.declared.Verdict.{Verdict}
 use Rattle.header.specs.declared.Verdict.the-variants.{Accepted, Refused}
 use Rattle.header.proofs.Order.{hit, miss, through, unless, after-tests, all-false}
-use Rattle.header.proofs.Laws.{head-of-first, number-below}
+use Rattle.layout.proofs.Laws.{head-of-first}
+use Rattle.header.proofs.Laws.{number-below}
 use Rattle.format.specs.Edition.{Edition, one}
 use Rattle.format.specs.Sealed.{Mac, checks, zeroAfter, fillZero}
 use Rattle.format.specs.Judge.{Keys, Standing, standing, tests, judge}

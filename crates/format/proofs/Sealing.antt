@@ -12,9 +12,9 @@ use Rattle.blocks.specs.Blocks.{blockPut}
 use Rattle.blocks.proofs.Laws.{block-put}
 use Rattle.sp800_38a.specs.Modes.{moded}
 use Rattle.sp800_38a.specs.declared.Operation.the-variants.{CbcEncrypt}
-use Rattle.header.specs.Layout.{headBytes}
-use Rattle.header.specs.declared.Head.{Head}
-use Rattle.header.proofs.Laws.{head-octets}
+use Rattle.layout.specs.Layout.{headBytes}
+use Rattle.layout.specs.declared.Head.{Head}
+use Rattle.layout.proofs.Laws.{head-octets}
 use Rattle.format.specs.Sealed.{Mac, front, sealed}
 use Rattle.format.specs.Lent.{sealedOver}
 

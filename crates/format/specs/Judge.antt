@@ -1,12 +1,12 @@
 -- What a reader says of one block (docs/REFUSALS.md). Assumes nothing: these are definitions.
 use Prim.Native.Nat.{ℕ, _+_}
-use mathlib.Core.Bool.{Bool, true, false, _&&_, not}
+use mathlib.Core.Bool.{Bool, _&&_, not}
 use mathlib.Core.List.{List, [], _∷_, _++_}
 use lib.ListN.{drop}
 use Rattle.octets.specs.Blocks.{BlockCipher}
-use Rattle.header.specs.Layout.{checkAt, headOf}
+use Rattle.layout.specs.Layout.{checkAt, headOf}
 use Rattle.header.specs.Rules.{firstOf, closed, headTests}
-use Rattle.header.specs.declared.Head.{Head}
+use Rattle.layout.specs.declared.Head.{Head}
 use Rattle.header.specs.declared.Progress.{Progress}
 use Rattle.header.specs.declared.Reason.{Reason}
 use Rattle.header.specs.declared.Reason.the-variants.{AfterLast, CheckWrong, FillNotZero}

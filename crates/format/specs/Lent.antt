@@ -11,8 +11,8 @@ use Rattle.blocks.specs.Blocks.{blockAt}
 use Rattle.schedule.specs.Schedule.{roundCount}
 use Rattle.lookups.specs.Lookups.{tableCipher, oneTable}
 use Rattle.sp800_38b.specs.Cmac.{cmacBy}
-use Rattle.header.specs.Layout.{bodySize, blockSize, headOf}
-use Rattle.header.specs.declared.Head.{Head}
+use Rattle.layout.specs.Layout.{bodySize, blockSize, headOf}
+use Rattle.layout.specs.declared.Head.{Head}
 use Rattle.header.specs.declared.Progress.{Progress}
 use Rattle.format.specs.Edition.{one}
 use Rattle.format.specs.Sealed.{Mac, sealed, opened, zeroAfter}

@@ -9,8 +9,8 @@ use Rattle.octets.specs.Blocks.{BlockCipher}
 use Rattle.sp800_38a.specs.Modes.{moded}
 use Rattle.sp800_38a.specs.declared.Operation.the-variants.{CbcEncrypt, CbcDecrypt}
 use Rattle.sp800_38b.specs.Cmac.{cmac}
-use Rattle.header.specs.Layout.{headSize, bodySize, checkAt, headOf, headBytes}
-use Rattle.header.specs.declared.Head.{Head}
+use Rattle.layout.specs.Layout.{headSize, bodySize, checkAt, headOf, headBytes}
+use Rattle.layout.specs.declared.Head.{Head}
 use Rattle.format.specs.Edition.{Edition}
 
 -- ---- the writer's side

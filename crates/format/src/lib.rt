@@ -1,6 +1,6 @@
 // No code but two types: what one block of an image is, sealed, opened and judged, for an edition of the format, and the laws of it.
-use header::Head;
 use header::Verdict;
+use layout::Head;
 
 // The rounds of the schedules of the encryption key and of the check key, where their words are lent.
 pub struct Rounds {

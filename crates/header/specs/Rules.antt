@@ -4,8 +4,8 @@ use mathlib.Core.Bool.{Bool, _&&_, _||_, not}
 use mathlib.Core.List.{List, [], _∷_}
 use lib.Dec.{eqb, ltb, leb}
 use Rattle.octets.specs.Octets.{choose}
-use Rattle.header.specs.Layout.{bodySize}
-use Rattle.header.specs.declared.Head.{Head}
+use Rattle.layout.specs.Layout.{bodySize}
+use Rattle.layout.specs.declared.Head.{Head}
 use Rattle.header.specs.declared.Progress.{Progress}
 use Rattle.header.specs.declared.Reason.{Reason}
 use Rattle.header.specs.declared.Value.{Value}

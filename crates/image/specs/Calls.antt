@@ -12,7 +12,7 @@ use Rattle.schedule.specs.declared.KeySchedule.{KeySchedule}
 use Rattle.schedule.specs.declared.KeyAnswer.{KeyAnswer}
 use Rattle.schedule.specs.declared.KeyAnswer.the-variants.{Taken, KeyLength}
 use Rattle.fips197.specs.Cipher.{aesOf}
-use Rattle.header.specs.Layout.{blockSize}
+use Rattle.layout.specs.Layout.{blockSize}
 use Rattle.header.specs.Rules.{done, countFits, lengthFits}
 use Rattle.format.specs.Edition.{one, noCheck}
 use Rattle.format.specs.Sealed.{blockFor}

@@ -6,7 +6,7 @@ use Rattle.lookups.specs.Lookups.{oneTable}
 use Rattle.sp800_38b.specs.Cmac.{key1, key2}
 use Rattle.format.specs.Lent.{lentMac, sealedOver}
 use Rattle.format.specs.declared.Rounds.{Rounds}
-use Rattle.header.specs.declared.Head.{Head}
+use Rattle.layout.specs.declared.Head.{Head}
 
 -- what sealing under two schedules leaves of an output, over the standard's table
 abbrev pub sealedUnder : (ewords cwords : List ℕ) → Rounds → Head → (payload out : List ℕ) → List ℕ

@@ -1,9 +1,9 @@
 // Release images: a writer of blocks, and a reader that takes them in turns.
 use format::Rounds;
-use header::Head;
 use header::Progress;
 use header::count_fits;
 use header::length_fits;
+use layout::Head;
 use schedule::KeyAnswer;
 use schedule::KeySchedule;
 use seal::seal;

@@ -1,7 +1,7 @@
 -- Demand 1 for the calls of headers, blocks and images: each asks nothing of its caller, any two outcomes that its contract allows agree,
 -- and a refused call leaves the output as it was. Then demands 2 and 3 for the calls themselves. Assumes nothing.
 use mathlib.Core.Path.{_≡_, sym, ap, ap₂, subst, _∙_}
-use mathlib.Core.Bool.{true, false, _&&_}
+use mathlib.Core.Bool.{false, _&&_}
 use mathlib.Core.List.{List, []}
 use Prim.Native.Nat.{ℕ, _*_, _≤_, _<_}
 use denote.Ref.{now}
@@ -15,7 +15,7 @@ use Rattle.header.specs.Rules.{closed, verdictNumber}
 use Rattle.header.specs.declared.Progress.{Progress}
 use Rattle.header.specs.declared.Reason.the-variants.{AfterLast, CheckWrong}
 use Rattle.header.specs.declared.Reason.{Reason}
-use Rattle.header.specs.Layout.{headOf}
+use Rattle.layout.specs.Layout.{headOf}
 use Rattle.format.specs.Edition.{one}
 use Rattle.format.specs.Sealed.{filled}
 use Rattle.format.specs.Judge.{Keys, standing}
@@ -36,17 +36,17 @@ use Rattle.promises.proofs.Keys.{KeyTaken}
 use Rattle.promises.proofs.ImageTerms.{Row, Says, AllMet, Fit, WriteSays, StartSays, StopSays, CompletionSays, Fair, Wrote, Waits, Whole, given, readerOf}
 use Rattle.promises.proofs.Image.{verdict-as-told, verdict-done, write-answer-as-told, fit-is-written, start-says, start-takes, refused-start-gives-zeros, turn-stop-as-told, turn-ends, completion-as-told, completed, written-is-read, damaged-ends-a-turn, write-refusal-keeps, turn-refusal-keeps}
 use Rattle.blocks.proofs.equal.Reads as equal
-use Rattle.header.proofs.head_of.Reads as head-of
-use Rattle.header.proofs.head_bytes.Reads as head-bytes
+use Rattle.layout.proofs.head_of.Reads as head-of
+use Rattle.layout.proofs.head_bytes.Reads as head-bytes
 use Rattle.header.proofs.complete.Reads as complete
 use Rattle.header.proofs.closed.Reads as is-closed
 use Rattle.header.proofs.count_fits.Reads as count-fits
 use Rattle.header.proofs.length_fits.Reads as length-fits
 use Rattle.header.proofs.judge_head.Reads as judge-head
 use Rattle.seal.proofs.check_holds.Reads as check-holds
-use Rattle.seal.proofs.fill_is_zero.Reads as fill-is-zero
+use Rattle.opening.proofs.fill_is_zero.Reads as fill-is-zero
 use Rattle.seal.proofs.judge.Reads as judge
-use Rattle.seal.proofs.open_block.Reads as open-block
+use Rattle.opening.proofs.open_block.Reads as open-block
 use Rattle.seal.proofs.seal.Reads as seal
 use Rattle.image.proofs.read_start.Reads as read-start
 use Rattle.image.proofs.read_complete.Reads as read-complete

@@ -8,9 +8,9 @@ use Rattle.octets.specs.Octets.{choose, Bytes, Octets, joined}
 use Rattle.octets.specs.Blocks.{BlockCipher}
 use Rattle.schedule.specs.declared.KeyAnswer.{KeyAnswer}
 use Rattle.schedule.specs.declared.KeyAnswer.the-variants.{Taken, KeyLength}
-use Rattle.header.specs.Layout.{headOf}
+use Rattle.layout.specs.Layout.{headOf}
 use Rattle.header.specs.Rules.{closed, lengthFits}
-use Rattle.header.specs.declared.Head.{Head}
+use Rattle.layout.specs.declared.Head.{Head}
 use Rattle.header.specs.declared.Progress.{Progress}
 use Rattle.header.specs.declared.Reason.{Reason}
 use Rattle.header.specs.declared.Reason.the-variants.{AfterLast, CheckWrong, Count, Number, OtherCount, OtherRelease, Length, Reserved, FillNotZero}

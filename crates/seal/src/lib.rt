@@ -1,32 +1,29 @@
-// One block of an image, with the tables and schedules lent that its ciphers look up in: its check, its fill, the verdict on it,
-// opening it and sealing it. What is no block of 512 bytes has no right check and no zero fill, and is not opened.
-mod fill;
+// One block of an image, with the tables and schedules lent that its ciphers look up in: its check, the verdict on it, and sealing it.
+// What is no block of 512 bytes has no right check.
 mod parts;
 
-use crate::fill::zero_after;
 use crate::parts::check_of;
 use crate::parts::seal_into;
 use blocks::equal;
 use blocks::load;
 use format::Judged;
 use format::Rounds;
-use header::Head;
 use header::Progress;
 use header::Reason;
 use header::Verdict;
-use header::head_of;
 use header::judge_head;
-use rounds::encrypt_block;
+use layout::Head;
+use layout::head_of;
+use opening::fill_is_zero;
 use schedule::is_round_count;
-use sp800_38a::Operation;
 ghost use mathlib.Core.Path.{_≡_};
 ghost use mathlib.Core.Bool.{_&&_};
-ghost use Rattle.lookups.specs.Lookups.{tableCipher, oneTable};
+ghost use Rattle.lookups.specs.Lookups.{oneTable};
 ghost use Rattle.format.specs.Edition.{one};
 ghost use Rattle.format.specs.Sealed.{checks};
 ghost use Rattle.format.specs.Judge.{standing};
 ghost use Rattle.format.specs.Judge as format;
-ghost use Rattle.format.specs.Lent.{usable, lentMac, lentKeys, filledOut, openedOver, sealedOver, headRead, judged};
+ghost use Rattle.format.specs.Lent.{usable, lentMac, lentKeys, sealedOver, headRead, judged};
 
 // Whether a block carries its check, all 16 bytes, which covers a tail besides. Under a schedule that no key gave, no check is right.
 pub fn check_holds(
@@ -51,27 +48,6 @@ pub fn check_holds(
     }
     let made = check_of(forth, cwords, key1, key2, rounds.chk, &block[0..496], tail);
     equal(made, load(block, 496))
-}
-
-// Whether what follows a payload of this length is zero.
-pub fn fill_is_zero(
-    forth: &[u32; 256],
-    back: &[u32; 256],
-    ewords: &[u32; 60],
-    dwords: &[u32; 60],
-    rounds: usize,
-    block: &[u8],
-    len: usize,
-) -> bool
-    ensures { λ r. ⌜ r ≡ filledOut (tableCipher (now (forth .entry)) (now (back .entry)) (now (ewords .entry)) (now (dwords .entry)) rounds) len (now (block .entry)) ⌝ }
-{
-    if block.len() != 512 {
-        return false;
-    }
-    if len >= 480 {
-        return true;
-    }
-    zero_after(forth, back, ewords, dwords, rounds, block, len)
 }
 
 // The verdict on a block, and its header. Nothing is opened for it: the fill's test decrypts piece by piece.
@@ -104,38 +80,6 @@ pub fn judge(
         block,
     );
     Judged { verdict, head }
-}
-
-// Puts the 480 decrypted bytes of a block into the first of an output; the IV is the header enciphered.
-// Where there is no block, or no room for its bytes, nothing is written.
-pub fn open_block(
-    forth: &[u32; 256],
-    back: &[u32; 256],
-    ewords: &[u32; 60],
-    dwords: &[u32; 60],
-    rounds: usize,
-    block: &[u8],
-    output: &mut [u8],
-)
-    ensures { λ _. ⌜ now (output .exit) ≡ openedOver (tableCipher (now (forth .entry)) (now (back .entry)) (now (ewords .entry)) (now (dwords .entry)) rounds) (now (block .entry)) (now (output .entry)) ⌝ }
-{
-    if block.len() != 512 {
-        return;
-    }
-    if output.len() < 480 {
-        return;
-    }
-    let first = load(block, 0);
-    let iv = encrypt_block(forth, ewords, rounds, first);
-    pieces::run(
-        back,
-        dwords,
-        rounds,
-        Operation::CbcDecrypt,
-        iv,
-        &block[16..496],
-        &mut output[0..480],
-    );
 }
 
 // Writes the block with this header and payload, whose check covers a tail besides, into the first 512 bytes of an output.

@@ -2,8 +2,8 @@
 use blocks::copy;
 use blocks::store;
 use format::Rounds;
-use header::Head;
-use header::head_bytes;
+use layout::Head;
+use layout::head_bytes;
 use rounds::encrypt_block;
 use running::Run;
 use sp800_38a::Operation;

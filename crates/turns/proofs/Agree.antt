@@ -9,7 +9,7 @@ use Rattle.octets.proofs.Blocks.{drop-bytes, take-octets}
 use Rattle.tables.specs.Tables.{forwardTable, inverseTable}
 use Rattle.lookups.specs.Lookups.{oneTable, inverseWords}
 use Rattle.sp800_38b.specs.Cmac.{doubled, key1, key2}
-use Rattle.header.specs.Layout.{headOf}
+use Rattle.layout.specs.Layout.{headOf}
 use Rattle.header.specs.declared.Verdict.{Verdict}
 use Rattle.header.specs.declared.Verdict.the-variants.{Accepted, Refused}
 use Rattle.format.specs.Edition.{one}

@@ -7,8 +7,8 @@ use native.Mathlib.Omega.{arith}
 use lib.ListN.{length, take, drop, length-append, length-drop, take-append-drop}
 use lib.Seq.{take-at, drop-at, drop-drop, length-take-le}
 use Rattle.octets.specs.Octets.{over}
-use Rattle.header.specs.Layout.{headOf}
-use Rattle.header.specs.declared.Head.{Head}
+use Rattle.layout.specs.Layout.{headOf}
+use Rattle.layout.specs.declared.Head.{Head}
 use Rattle.header.specs.declared.Progress.{Progress}
 use Rattle.header.specs.declared.Reason.{Reason}
 use Rattle.header.specs.declared.Verdict.{Verdict}

@@ -1,7 +1,6 @@
 -- The progress as the code moves it. Assumes nothing: these are definitions.
 use Prim.Native.Nat.{_+_, _%_}
-use mathlib.Core.Bool.{true}
-use Rattle.header.specs.declared.Head.{Head}
+use Rattle.layout.specs.declared.Head.{Head}
 use Rattle.header.specs.declared.Progress.{Progress}
 
 -- the progress after a block, were it accepted: no accepted block has the number from which the next is 0

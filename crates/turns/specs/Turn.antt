@@ -7,7 +7,7 @@ use lib.ListN.{length, take, drop}
 use Rattle.octets.specs.Octets.{choose, over}
 use Rattle.fips197.specs.Cipher.{standard}
 use Rattle.sp800_38b.specs.Cmac.{cmac}
-use Rattle.header.specs.Layout.{bodySize, blockSize, headOf}
+use Rattle.layout.specs.Layout.{bodySize, blockSize, headOf}
 use Rattle.header.specs.Rules.{reasonNumber}
 use Rattle.header.specs.declared.Progress.{Progress}
 use Rattle.header.specs.declared.Verdict.{Verdict}

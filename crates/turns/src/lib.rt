@@ -1,12 +1,12 @@
 // A turn of a reader over the blocks lent to it, up to the first that is refused, under two schedules that are lent.
 use cipher::inverse_words;
 use format::Rounds;
-use header::Head;
 use header::Progress;
 use header::Reason;
 use header::Verdict;
+use layout::Head;
+use opening::open_block;
 use seal::judge;
-use seal::open_block;
 use tables::forward_table;
 use tables::inverse_table;
 ghost use mathlib.Core.Path.{_≡_};

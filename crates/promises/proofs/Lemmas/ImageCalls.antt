@@ -19,10 +19,10 @@ use Rattle.schedule.specs.declared.Expanded.{Expanded}
 use Rattle.fips197.specs.Cipher.{aesOf, standard}
 use Rattle.fips197.proofs.Aes.{aes-lawful, key-lawful}
 use Rattle.sp800_38b.specs.Cmac.{cmac}
-use Rattle.header.specs.Layout.{headOf}
+use Rattle.layout.specs.Layout.{headOf}
 use Rattle.header.specs.Rules.{countFits, lengthFits}
 use Rattle.header.specs.declared.Verdict.the-variants.{Accepted}
-use Rattle.header.proofs.Laws.{Wide}
+use Rattle.layout.proofs.Laws.{Wide}
 use Rattle.format.specs.Edition.{one, noCheck}
 use Rattle.format.specs.Sealed.{headFor, blockFor, opened}
 use Rattle.format.specs.Judge.{Keys, begun, standing, judge, advanced}

@@ -17,15 +17,15 @@ use Rattle.sp800_38a.specs.Modes.{moded}
 use Rattle.sp800_38a.specs.declared.Operation.the-variants.{CbcEncrypt, CbcDecrypt}
 use Rattle.sp800_38a.proofs.Sixteen.{length-16, undone-16, bytes-16}
 use Rattle.sp800_38b.specs.Cmac.{cmac, SameOutside}
-use Rattle.header.specs.Layout.{headOf}
+use Rattle.layout.specs.Layout.{headOf}
 use Rattle.header.specs.Rules.{firstOf, closed, countFits, lengthFits, headTests}
-use Rattle.header.specs.declared.Head.{Head}
+use Rattle.layout.specs.declared.Head.{Head}
 use Rattle.header.specs.declared.Progress.{Progress}
 use Rattle.header.specs.declared.Reason.{Reason}
 use Rattle.header.specs.declared.Reason.the-variants.{AfterLast, CheckWrong, Count, Number, OtherCount, OtherRelease, Length, Reserved, FillNotZero}
 use Rattle.header.specs.declared.Verdict.{Verdict}
 use Rattle.header.specs.declared.Verdict.the-variants.{Accepted, Refused}
-use Rattle.header.proofs.Laws.{Wide, head-bytes}
+use Rattle.layout.proofs.Laws.{Wide, head-bytes}
 use Rattle.header.proofs.Order.{all-false, all-accepted}
 use Rattle.blocks.proofs.Laws.{same-true}
 use Rattle.format.specs.Sealed.{filled, front, sealed, opened, checks, zeroAfter, fillZero}

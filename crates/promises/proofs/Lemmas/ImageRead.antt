@@ -10,12 +10,12 @@ use Rattle.octets.specs.Blocks.{BlockCipher, Lawful}
 use Rattle.fips197.specs.Cipher.{aesOf}
 use Rattle.fips197.proofs.Aes.{key-lawful}
 use Rattle.sp800_38b.specs.Cmac.{SameOutside}
-use Rattle.header.specs.Layout.{headOf}
+use Rattle.layout.specs.Layout.{headOf}
 use Rattle.header.specs.Rules.{done}
-use Rattle.header.specs.declared.Head.{Head}
+use Rattle.layout.specs.declared.Head.{Head}
 use Rattle.header.specs.declared.Progress.{Progress}
 use Rattle.header.specs.declared.Verdict.the-variants.{Accepted}
-use Rattle.header.proofs.Laws.{Wide}
+use Rattle.layout.proofs.Laws.{Wide}
 use Rattle.format.specs.Edition.{one, noCheck}
 use Rattle.format.specs.Sealed.{filled, headFor, blockFor, opened}
 use Rattle.format.specs.Judge.{Keys, Standing, standing, judge, ofEdition}

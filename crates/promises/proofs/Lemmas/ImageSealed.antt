@@ -20,9 +20,9 @@ use Rattle.sp800_38a.specs.declared.Operation.the-variants.{CbcEncrypt, CbcDecr
 use Rattle.sp800_38a.proofs.Sixteen.{length-16, undone-16, bytes-16}
 use Rattle.sp800_38b.specs.Cmac.{cmac, SameOutside}
 use Rattle.sp800_38b.proofs.OnePiece.{cmac-octets, one-piece}
-use Rattle.header.specs.Layout.{headOf, headBytes}
-use Rattle.header.specs.declared.Head.{Head}
-use Rattle.header.proofs.Laws.{Wide, head-of, head-octets}
+use Rattle.layout.specs.Layout.{headOf, headBytes}
+use Rattle.layout.specs.declared.Head.{Head}
+use Rattle.layout.proofs.Laws.{Wide, head-of, head-octets}
 use Rattle.format.specs.Sealed.{filled, front, covered, sealed, opened, checks, allZero, zeroAfter, fillZero}
 
 -- ---- zeros

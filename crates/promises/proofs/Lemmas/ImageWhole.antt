@@ -15,11 +15,11 @@ use Rattle.octets.specs.Blocks.{BlockCipher, Lawful}
 use Rattle.octets.proofs.Blocks.{take-bytes, drop-bytes, zeros-bytes, length-nil}
 use Rattle.sp800_38a.specs.Pieces.{piece}
 use Rattle.sp800_38b.specs.Cmac.{cmac}
-use Rattle.header.specs.Layout.{headOf}
+use Rattle.layout.specs.Layout.{headOf}
 use Rattle.header.specs.Rules.{done, lengthFits}
-use Rattle.header.specs.declared.Head.{Head}
+use Rattle.layout.specs.declared.Head.{Head}
 use Rattle.header.specs.declared.Verdict.the-variants.{Accepted}
-use Rattle.header.proofs.Laws.{Wide}
+use Rattle.layout.proofs.Laws.{Wide}
 use Rattle.format.specs.Edition.{Edition, noCheck}
 use Rattle.format.specs.Sealed.{headFor, blockFor}
 use Rattle.format.specs.Judge.{Keys, Standing, judge, fresh, taken, ofEdition}

@@ -1,5 +1,5 @@
 use mathlib.Core.Path.{ap, _∙_}
-use Rattle.header.specs.Layout.{headOf}
+use Rattle.layout.specs.Layout.{headOf}
 use Rattle.format.specs.Lent.{judged}
 use borrow.Author.Needs.{needs}
 use Rattle.seal.proofs.judge.Statement.{statement}

@@ -11,8 +11,8 @@ use Rattle.format.proofs.Sizes.{encrypt-sized, decrypt-sized, body-length}
 use Rattle.format.proofs.Opening.{open-none, open-short, open-by}
 use native.Mathlib.Omega.{arith}
 use borrow.Author.Needs.{needs}
-use Rattle.seal.proofs.open_block.Statement.{statement}
-use Rattle.seal.proofs.open_block.Tie as tie
+use Rattle.opening.proofs.open_block.Statement.{statement}
+use Rattle.opening.proofs.open_block.Tie as tie
 
 returns : tie.Need-returns
 returns c =

@@ -10,8 +10,8 @@ use Rattle.format.proofs.Opening.{left, fill-start, fill-not, fill-on, fill-end
 use Rattle.format.proofs.Judging.{flip}
 use native.Mathlib.Omega.{arith}
 use borrow.Author.Needs.{needs, length-unmapped}
-use Rattle.seal.proofs.fill.zero_after.Statement.{statement}
-use Rattle.seal.proofs.fill.zero_after.Tie as tie
+use Rattle.opening.proofs.fill.zero_after.Statement.{statement}
+use Rattle.opening.proofs.fill.zero_after.Tie as tie
 
 -- what is left to decrypt is zero where it is to be, just where the fill is
 abbrev Inv-loop : tie.InvT-loop

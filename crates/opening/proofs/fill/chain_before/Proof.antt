@@ -7,8 +7,8 @@ use Rattle.blocks.proofs.Laws.{block-at}
 use Rattle.format.proofs.Opening.{first-chain, later-chain}
 use native.Mathlib.Omega.{arith}
 use borrow.Author.Needs.{needs}
-use Rattle.seal.proofs.fill.chain_before.Statement.{statement}
-use Rattle.seal.proofs.fill.chain_before.Tie as tie
+use Rattle.opening.proofs.fill.chain_before.Statement.{statement}
+use Rattle.opening.proofs.fill.chain_before.Tie as tie
 
 mul-load : tie.Need-mul-load
 mul-load c = search needs

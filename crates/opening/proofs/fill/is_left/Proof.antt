@@ -1,7 +1,7 @@
 use borrow.Author.Tests.{le-leb, lt-leb}
 use mathlib.Core.Path.{refl}
-use Rattle.seal.proofs.fill.is_left.Statement.{statement}
-use Rattle.seal.proofs.fill.is_left.Tie as tie
+use Rattle.opening.proofs.fill.is_left.Statement.{statement}
+use Rattle.opening.proofs.fill.is_left.Tie as tie
 
 returns : tie.Need-returns
 returns c = rw (lt-leb _ _ (c .if1 .taken))

@@ -1,7 +1,7 @@
-use Rattle.header.proofs.Laws.{head-by}
+use Rattle.layout.proofs.Laws.{head-by}
 use borrow.Author.Needs.{needs}
-use Rattle.header.proofs.head_of.Statement.{statement}
-use Rattle.header.proofs.head_of.Tie as tie
+use Rattle.layout.proofs.head_of.Statement.{statement}
+use Rattle.layout.proofs.head_of.Tie as tie
 
 array-read-join : tie.Need-array-read-join
 array-read-join c = search needs

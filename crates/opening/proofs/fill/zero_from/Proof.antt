@@ -5,8 +5,8 @@ use Rattle.format.specs.Sealed.{allZero}
 use Rattle.format.proofs.Opening.{reached-none, reached-not, reached-more, reached-end}
 use borrow.Author.Needs.{needs}
 use native.Mathlib.Omega.{arith}
-use Rattle.seal.proofs.fill.zero_from.Statement.{statement}
-use Rattle.seal.proofs.fill.zero_from.Tie as tie
+use Rattle.opening.proofs.fill.zero_from.Statement.{statement}
+use Rattle.opening.proofs.fill.zero_from.Tie as tie
 
 abbrev Inv-loop : tie.InvT-loop
 Inv-loop from plain i₀ i = allZero (drop (max from i) plain) ≡ allZero (drop from plain)

@@ -1,8 +1,8 @@
 use Rattle.octets.specs.Words.{bytesOf}
-use Rattle.header.specs.Layout.{headBytes}
+use Rattle.layout.specs.Layout.{headBytes}
 use borrow.Author.Needs.{needs}
-use Rattle.header.proofs.head_bytes.Statement.{statement}
-use Rattle.header.proofs.head_bytes.Tie as tie
+use Rattle.layout.proofs.head_bytes.Statement.{statement}
+use Rattle.layout.proofs.head_bytes.Tie as tie
 
 word-bytes-requires : tie.Need-word-bytes-requires
 word-bytes-requires c κs = search needs

@@ -3,7 +3,7 @@ use Prim.Native.Nat.{ℕ, _+_, _*_, _/_, _%_}
 use mathlib.Core.List.{List, [], _∷_, _++_}
 use lib.ListN.{getD}
 use Rattle.octets.specs.Words.{wordAt, bytesOf}
-use Rattle.header.specs.declared.Head.{Head}
+use Rattle.layout.specs.declared.Head.{Head}
 
 -- ---- the parts of a block, in bytes
 

@@ -2,8 +2,8 @@ use Rattle.octets.specs.Octets.{entry}
 use Rattle.lookups.specs.Lookups.{tableCipher}
 use Rattle.format.proofs.Sizes.{encrypt-sized, decrypt-sized}
 use Rattle.format.proofs.Opening.{fill-of-none, fill-of-block, fill-past}
-use Rattle.seal.proofs.fill_is_zero.Statement.{statement}
-use Rattle.seal.proofs.fill_is_zero.Tie as tie
+use Rattle.opening.proofs.fill_is_zero.Statement.{statement}
+use Rattle.opening.proofs.fill_is_zero.Tie as tie
 
 returns : tie.Need-returns
 returns c =
