@@ -288,7 +288,7 @@ image-is-written ekey ckey release payload te tc hr lp bp i hi out lo =
 pub image-length : (ed : Edition) (ek ck : BlockCipher) (release : ℕ) (payload : List ℕ) → length (image ed ek ck release payload) ≡ blocks payload
 image-length ed ek ck release payload = written-length ed ek ck (blocks payload) release (blocks payload) 0 noCheck payload
 
-one-proper : Proper one
+pub one-proper : Proper one
 one-proper = record { mark-wide = omega arith; tail-bytes = λ x o k. omega arith }
 
 -- read in any turns, whatever blocks each lends and however many it asks for, as long as those handled are the image, every block is

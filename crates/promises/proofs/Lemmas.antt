@@ -3,6 +3,7 @@ pub mod ImageJudge
 pub mod ImageTurn
 pub mod ImageSound
 pub mod ImageWhole
+pub mod ImageOne
 pub mod ImageCalls
 pub mod ImageRead
 pub mod WrapLaws

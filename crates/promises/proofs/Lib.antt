@@ -10,6 +10,7 @@ pub mod Text
 pub mod Lemmas
 pub mod ImageTerms
 pub mod Image
+pub mod OneImage
 pub mod ImageDemands
 pub mod OldRules
 pub mod WrapTerms

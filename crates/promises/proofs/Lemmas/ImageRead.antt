@@ -98,7 +98,7 @@ pub blocks-split : (bs cs : List (List ℕ)) → Blocks (bs ++ cs) → Blocks bs
 blocks-split [] cs w = (tt, w)
 blocks-split (b ∷ bs) cs w = let ih = blocks-split bs cs (w .1) in ((w .0, ih .0), ih .1)
 
-take-whole : (bs : List (List ℕ)) → take (length bs) bs ≡ bs
+pub take-whole : (bs : List (List ℕ)) → take (length bs) bs ≡ bs
 take-whole [] = refl
 take-whole (b ∷ bs) = ap (b ∷_) (take-whole bs)
 

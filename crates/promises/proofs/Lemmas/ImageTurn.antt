@@ -23,10 +23,10 @@ use Rattle.promises.proofs.Lemmas.ImageJudge.{accepted-met, met-accepte
 
 -- ---- stops
 
-not-end : (n : ℕ) (r : Reason) → At n r ≡ End → ⊥
+pub not-end : (n : ℕ) (r : Reason) → At n r ≡ End → ⊥
 not-end n r e = let z : _≡_ {A = ℕ} 0 1 = cc in omega arith
 
-later-end : (x : Stop) → later x ≡ End → x ≡ End
+pub later-end : (x : Stop) → later x ≡ End → x ≡ End
 later-end End e = refl
 later-end Asked e = let z : _≡_ {A = ℕ} 0 1 = cc in absurd (omega arith)
 later-end Lent e = let z : _≡_ {A = ℕ} 0 1 = cc in absurd (omega arith)
