@@ -168,8 +168,8 @@ typedef struct {
     size_t rounds;
 } dock_key_schedule;
 
-// How far a reader has come: the number of the block expected next, which is the number of blocks accepted so far; and, where that is not
-// 0, the count and release of the image, which the first block accepted fixed.
+// How far a reader has come: the number of the block expected next, which is how many blocks were accepted; and, where that is not 0,
+// the count and release of the image, which the first block accepted fixed.
 typedef struct {
     uint32_t next;
     uint32_t count;
@@ -190,8 +190,8 @@ typedef struct {
 } dock_read_start_answer;
 
 // What a turn did. number: 0, or 5, 6 or 4 where the whole turn was refused. reason: why the block at place (from 0) stopped the
-// turn, 7 to 10 or 12 to 16, or 0 where none did. value: what that block held where the reason is 13 or below, else 0. accepted: the blocks
-// accepted. bytes: the sum of their payload lengths. reader: the reader for the next turn.
+// turn, 7 to 10 or 12 to 16, or 0 where none did. value: what that block held where the reason is 13 or below, else 0. accepted: the
+// blocks accepted. bytes: the sum of their payload lengths. reader: the reader for the next turn.
 typedef struct {
     uint32_t number;
     uint32_t reason;
@@ -222,8 +222,8 @@ dock_read_start_answer dock_read_start(const uint8_t *ekey, size_t ekey_length, 
 dock_turn_answer dock_read_turn(dock_reader reader, const uint8_t *blocks, size_t blocks_length, size_t asked,
                                 uint8_t *output, size_t output_length);
 
-// 0 once the last block has been accepted: next is not 0 and is the count; 17 before. Only this 0 says that the release is here: not the size of a file, and not
-// a turn without a refusal.
+// 0 once the last block has been accepted, where next is not 0 and is the count, and 17 before. Only this 0 says that the release is
+// here: not the size of a file, and not a turn without a refusal.
 uint32_t dock_read_complete(dock_reader reader);
 
 // ---- The key wrap of RFC 3394

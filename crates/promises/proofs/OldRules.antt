@@ -10,7 +10,7 @@ use lib.Dec.{eqb, ltb, leb}
 use lib.ListN.{drop}
 use Rattle.octets.specs.Octets.{choose}
 use Rattle.layout.specs.Layout.{checkAt, headOf}
-use Rattle.header.specs.Rules.{firstOf, closed, countFits, lengthFits, headTests, reasonNumber, reasonValue}
+use Rattle.header.specs.Rules.{firstOf, done, closed, countFits, lengthFits, headTests, reasonNumber, reasonValue}
 use Rattle.layout.specs.declared.Head.{Head}
 use Rattle.header.specs.declared.Progress.{Progress}
 use Rattle.header.specs.declared.Reason.{Reason}
@@ -132,10 +132,10 @@ toldStop Asked = (5, [])
 toldStop Lent = (6, [])
 toldStop Room = (4, [])
 
--- the old states that can come up: `fixed` says that a block has been accepted, and then the number expected is not above the count
+-- the old states that can come up: `fixed` says that a block has been accepted, and the number expected is not above the count
 pub record CameUp (o : OldStanding) : Type 0 where
   pub fixed-after-one : o .progress .fixed ≡ ltb 0 (o .progress .next)
-  pub within : o .progress .fixed ≡ true → o .progress .next ≤ o .progress .count
+  pub within : o .progress .next ≤ o .progress .count
 
 -- ---- tests in a row
 
@@ -194,12 +194,12 @@ module _ (k : Keys) (ed : Edition) where
   unfolding closed
   same-end o w = end-at (o .progress .next) (o .progress .count) (o .progress .fixed) (w .fixed-after-one) (w .within)
     where
-      end-at : (n c : ℕ) (f : Bool) → f ≡ ltb 0 n → (f ≡ true → n ≤ c) → (f && eqb n c) ≡ (ltb 0 n && leb c n)
+      end-at : (n c : ℕ) (f : Bool) → f ≡ ltb 0 n → n ≤ c → (f && eqb n c) ≡ (ltb 0 n && leb c n)
       end-at n c true q h = rw (sym q) (at (eqb n c) refl)
         where
           at : (t : Bool) → eqb n c ≡ t → t ≡ leb c n
           at true g = sym (le-leb c n (omega (arith, eqb-true n c g)))
-          at false g = sym (lt-leb c n (omega (arith, h refl, eqb-false n c g)))
+          at false g = sym (lt-leb c n (omega (arith, h, eqb-false n c g)))
       end-at n c false q h = rw (sym q) refl
 
   -- the same number and value,
@@ -209,7 +209,7 @@ module _ (k : Keys) (ed : Edition) where
       ∙ ap (λ (x : Bool). firstTold (upTo10 (closed (today o .progress)) x k ed (today o) b ++ (eleven b ∷ from12 k ed b))) (w .fixed-after-one)
       ∙ eleven-says-nothing (today o) b
 
-  -- and the same next state,
+  -- the same next state,
   pub moves-as-before : (o : OldStanding) (b : List ℕ) → CameUp o → today (oldAfter k ed o b) ≡ afterOne k ed (today o) b
   moves-as-before o b w = go (eqb (oldAnswer k ed o b .0) 0) ∙ ap (λ (x : Answer). choose (eqb (x .0) 0) (taken (today o) b) (today o)) (answers-as-before o b w)
     where
@@ -217,13 +217,18 @@ module _ (k : Keys) (ed : Edition) where
       go true = refl
       go false = refl
 
-  -- which can come up again
+  -- and is complete as before
+  pub complete-as-before : (o : OldStanding) → CameUp o → oldDone (o .progress) ≡ done (today o .progress)
+  unfolding done
+  complete-as-before o w = ap (λ (x : Bool). x && eqb (o .progress .next) (o .progress .count)) (w .fixed-after-one)
+
+  -- the state after an accepted block can come up
   taken-came-up : (o : OldStanding) (b : List ℕ) → judge k ed (today o) b ≡ Accepted → CameUp (oldTaken o b)
   taken-came-up o b e =
       let r = accepted-met k ed (today o) b e .head-right in
       record {
         fixed-after-one = sym (lt-ltb 0 (o .progress .next + 1) (omega arith));
-        within = λ f. omega (arith, r .expected, right-below (ed .mark) (today o .progress) (headOf b) r);
+        within = omega (arith, r .expected, right-below (ed .mark) (today o .progress) (headOf b) r);
       }
 
   -- what a run of old and of today's rules have in common
@@ -279,7 +284,7 @@ module _ (k : Keys) (ed : Edition) where
   -- ---- 11 came from no start
 
   pub from-start-came-up : (o : OldStanding) → OldFromStart k ed o → CameUp o
-  from-start-came-up o started = record { fixed-after-one = refl; within = λ f. omega arith }
+  from-start-came-up o started = record { fixed-after-one = refl; within = omega arith }
   from-start-came-up o (turn {o = q} f bs) = run q bs (from-start-came-up q f) .1
 
   not-11 : (y : Stop) → toldStop y .0 ≡ 11 → ⊥
