@@ -77,11 +77,17 @@ fn schedule_shows_sixty_words() {
 fn refused_lines_give_zeros_or_the_lent_output() {
     assert_eq!(answer(&format!("encrypt 00 {ZEROS}")), format!("1 {ZEROS}"));
     assert_eq!(answer("check - -"), format!("1 {ZEROS}"));
-    assert_eq!(answer(&format!("cbc-encrypt {KEY} - 00 aa")), "2 aa");
-    assert_eq!(answer(&format!("cbc-encrypt {KEY} {ZEROS} 00 aa")), "3 aa");
+    assert_eq!(
+        answer(&format!("cbc-encrypt {KEY} - 00 aa")),
+        format!("2 {ZEROS} aa")
+    );
+    assert_eq!(
+        answer(&format!("cbc-encrypt {KEY} {ZEROS} 00 aa")),
+        format!("3 {ZEROS} aa")
+    );
     assert_eq!(
         answer(&format!("cbc-encrypt {KEY} {ZEROS} {ZEROS} aa")),
-        "4 aa"
+        format!("4 {ZEROS} aa")
     );
     assert_eq!(answer(&format!("write {KEY} {KEY} 0 0 0 - aa")), "7 aa");
     assert_eq!(answer(&format!("write {KEY} {KEY} 1 1 0 - aa")), "8 aa");
