@@ -7,6 +7,7 @@ pub mod Numbers
 pub mod Modes
 pub mod Check
 pub mod Text
+pub mod Cut
 pub mod Lemmas
 pub mod ImageTerms
 pub mod Image
