@@ -1,4 +1,4 @@
-"""Makes the sample keys and images, and the input of the listing's test: python3 make.py, in this folder.
+"""Makes the sample keys, file and images, and the input of two programs' tests: python3 make.py, in this folder.
 
 The cipher is that of the Python package `cryptography`: no byte comes from a program of this project.
 """
@@ -31,27 +31,44 @@ def check(message):
     return maker.finalize()
 
 
-def block(number, payload):
-    """Block `number` of the sample image."""
+def block(number, payload, mark, tail):
+    """Block `number` of the sample image; an edition has a mark in the header and a tail that the check covers besides."""
     header = b"".join(value.to_bytes(4, "big") for value in (number, COUNT, RELEASE))
-    header += len(payload).to_bytes(2, "big") + bytes(2)
+    header += len(payload).to_bytes(2, "big") + mark.to_bytes(2, "big")
     vector = encrypted(modes.ECB(), header)
     front = header + encrypted(modes.CBC(vector), payload.ljust(480, b"\0"))
-    return front + check(front)
+    return front + check(front + tail)
+
+
+def sealed(edition):
+    """The sample image in that edition. In edition 2 each check covers the one before too, sixteen zeros before the first."""
+    image = b""
+    last = bytes(16)
+    for n in range(COUNT):
+        payload = PAYLOAD[480 * n:480 * n + 480]
+        made = block(n, payload, 2, last) if edition == 2 else block(n, payload, 0, b"")
+        last = made[496:]
+        image += made
+    return image
 
 
 def main():
-    """Writes the files beside this one, and the listing's standard input."""
+    """Writes the files beside this one, and what the listing's and the release program's tests read."""
     here = Path(__file__).resolve().parent
     keys = ENCRYPTION_KEY + CHECK_KEY
-    image = b"".join(block(n, PAYLOAD[480 * n:480 * n + 480]) for n in range(COUNT))
-    half = len(image) // 2
     (here / "keys").write_bytes(keys)
-    (here / "image").write_bytes(image)
-    # Its size is right: the room was reserved, and the second half never came.
-    (here / "image-cut").write_bytes(image[:half].ljust(len(image), b"\0"))
+    (here / "file").write_bytes(PAYLOAD)
+    for name, edition in (("image", 1), ("image-2", 2)):
+        whole = sealed(edition)
+        half = len(whole) // 2
+        (here / name).write_bytes(whole)
+        # Its size is right: the room was reserved, and the second half never came.
+        (here / (name + "-cut")).write_bytes(whole[:half].ljust(len(whole), b"\0"))
+    image = sealed(1)
     # The first block once more behind the last.
     (here.parent / "crates/listing/stdin").write_bytes(keys + image + image[:512])
+    (here.parent / "crates/release/data/keys").write_bytes(keys)
+    (here.parent / "crates/release/data/image").write_bytes(image)
 
 
 main()

@@ -1,0 +1,126 @@
+// What is read: the keys, and the input a piece at a time. A read that fails is told from an end.
+use crate::tell;
+ghost use Prim.Native.Nat.{_-_, _≤_};
+ghost use lib.ListN.{length};
+
+// The arguments that name files.
+pub const KEYS: usize = 2;
+
+pub const INPUT: usize = 3;
+
+// How many bytes were read, and whether a read failed, which has been told.
+pub struct Got {
+    pub n: usize,
+    pub failed: bool,
+}
+
+// Opens the file that argument i names, or tells why not and answers a number below 0.
+pub fn open(i: usize) -> i32 {
+    let mut path = io::buffer();
+    let n = os::arg(i, &mut path);
+    let fd = os::open_read(&path[..n]);
+    if fd < 0 {
+        tell::say(b"dock: a file cannot be read, see to its name and its rights: ");
+        os::fail(&path[..n]);
+    }
+    fd
+}
+
+// Reads `want` bytes, or as many as `buf` holds, or until the input ends, or a read fails.
+pub fn fill(fd: i32, buf: &mut [u8], want: usize) -> Got {
+    let end = smaller(buf.len(), want);
+    let mut at: usize = 0;
+    while at < end {
+        let g = more(fd, buf, at, end);
+        if g.failed {
+            tell::failed(b"a read failed, see to the disk and start again");
+            return Got {
+                n: at,
+                failed: true,
+            };
+        }
+        if g.n == 0 {
+            break;
+        }
+        at += g.n;
+    }
+    Got {
+        n: at,
+        failed: false,
+    }
+}
+
+fn more(fd: i32, buf: &mut [u8], at: usize, end: usize) -> Got
+    requires { ⌜ (at ≤ end) × (end ≤ length (now buf)) ⌝ }
+    ensures { λ r. ⌜ r .n ≤ end - at ⌝ }
+{
+    let got = libc::read(fd, &mut buf[at..end]);
+    Got {
+        n: smaller(natural(got as i64), end - at),
+        failed: got < 0,
+    }
+}
+
+pub fn smaller(a: usize, b: usize) -> usize
+    ensures { λ r. ⌜ (r ≤ a) × (r ≤ b) ⌝ }
+{
+    if a < b { a } else { b }
+}
+
+// 0 for a number below.
+pub fn natural(n: i64) -> usize {
+    if n >= 0 { n as usize } else { 0 }
+}
+
+// Two keys of equal size, or none where their file is told to be wrong: how many bytes they have.
+pub fn keys(room: &mut [u8; 65]) -> usize {
+    let fd = open(KEYS);
+    if fd < 0 {
+        return 0;
+    }
+    let got = fill(fd, room, 65);
+    libc::close(fd);
+    if got.failed {
+        return 0;
+    }
+    if is_two_keys(got.n) {
+        return got.n;
+    }
+    wrong_size(got.n);
+    0
+}
+
+// The keys, which have n bytes.
+pub fn of(room: &[u8; 65], n: usize) -> &[u8] {
+    lines::part(room, 0, n)
+}
+
+fn is_two_keys(n: usize) -> bool {
+    match n {
+        32 | 48 | 64 => true,
+        _ => false,
+    }
+}
+
+fn wrong_size(n: usize) {
+    tell::say(b"dock: the key file ");
+    tell::name(KEYS);
+    if n == 65 {
+        tell::say(b" has more than 64 bytes");
+    } else {
+        tell::say(b" has ");
+        tell::number(n as u64);
+        tell::say(b" bytes");
+    }
+    tell::say(
+        b": take the one that has the encryption key and then the check key, 32, 48 or 64 bytes in all\n",
+    );
+}
+
+pub fn encryption_key(keys: &[u8]) -> &[u8] {
+    lines::part(keys, 0, keys.len() / 2)
+}
+
+pub fn check_key(keys: &[u8]) -> &[u8] {
+    lines::part(keys, keys.len() / 2, keys.len())
+}

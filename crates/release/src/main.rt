@@ -1,0 +1,29 @@
+// Seals a file into a release image, opens an image, or checks one. `dock` starts it: with the words VERB KEYS INPUT and, where there
+// is an output, a temporary file beside it, its name and its folder; RELEASE and EDITION come last.
+mod card;
+mod clock;
+mod input;
+mod keep;
+mod line;
+mod opening;
+mod sealing;
+mod tell;
+
+fn main() {
+    let mut verb = [0u8; 8];
+    let n = os::arg(1, &mut verb);
+    let word = &verb[..n];
+    if check::same(word, b"check") {
+        opening::check_image();
+        return;
+    }
+    if check::same(word, b"open") {
+        opening::open_image();
+        return;
+    }
+    if check::same(word, b"seal") {
+        sealing::seal_file();
+        return;
+    }
+    tell::plain(b"the first word is none of seal, open and check: start the program by dock");
+}
