@@ -58,13 +58,13 @@ fn list() -> io::Result<()> {
     io::stdout().write_all(listing::list(&input).as_bytes())
 }
 
-/// Seals standard input under two keys of 16 bytes. The outer error is one of reading and sealing, the inner one of the writing.
+/// Seals standard input under two keys of equal size. The outer error is one of reading and sealing, the inner one of the writing.
 fn seal(keys: &Path, release: u32) -> Result<io::Result<()>, String> {
     let keys = fs::read(keys).map_err(|error| error.to_string())?;
     let mut payload = Vec::new();
     let read = io::stdin().lock().read_to_end(&mut payload);
     read.map_err(|error| error.to_string())?;
-    let (encryption_key, check_key) = keys.split_at(keys.len().min(16));
+    let (encryption_key, check_key) = keys.split_at(keys.len() / 2);
     let image = image::seal_all(encryption_key, check_key, release, &payload)
         .map_err(|refusal| format!("refusal {}", refusal.number()))?;
     Ok(io::stdout().write_all(&image))
