@@ -308,16 +308,25 @@ fn seal_as(release: u32, edition: u32) {
     }
 }
 
+// The editions that the writer knows.
+fn is_edition(e: u64) -> bool {
+    e == 1
+}
+
 pub fn seal_file() {
     let release = number(RELEASE, 4294967295);
     let Number::Is(r) = release else {
         tell::plain(b"the release is not a number below 4,294,967,296: give it in decimal digits");
         return;
     };
-    let edition = number(EDITION, 1);
+    let edition = number(EDITION, 65535);
     let Number::Is(e) = edition else {
-        tell::plain(b"there is no such edition: take 1");
+        tell::plain(b"the edition is not a number: give it in decimal digits");
         return;
     };
+    if !is_edition(e) {
+        tell::plain(b"there is no such edition: take 1");
+        return;
+    }
     seal_as((r % 4294967296) as u32, (e % 4294967296) as u32);
 }
