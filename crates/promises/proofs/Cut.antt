@@ -1,12 +1,18 @@
 -- A payload cut into blocks. Demand 1 for the calls; the parts join to the payload, each has the length that the writer asks for at its
--- place, and a turn of the sealing that starts at a block finds the parts of the whole. Assumes nothing.
-use mathlib.Core.Path.{_≡_, sym, _∙_}
+-- place, a turn of the sealing that starts at a block finds the parts of the whole, and the image of a payload is its parts, sealed in order. Assumes nothing.
+use mathlib.Core.Path.{_≡_, refl, ap, sym, _∙_}
 use mathlib.Core.Bool.{true}
-use mathlib.Core.List.{List}
-use Prim.Native.Nat.{ℕ, _+_, _*_, _≤_, _<_}
+use mathlib.Core.List.{List, [], _∷_}
+use Prim.Native.Nat.{ℕ, zero, suc, _+_, _*_, _≤_, _<_}
+use native.Mathlib.Omega.{arith}
 use denote.Ref.{now}
-use lib.ListN.{length, drop}
+use lib.ListN.{length, take, drop}
+use lib.Seq.{drop-drop}
 use Rattle.header.specs.Rules.{countFits, lengthFits}
+use Rattle.octets.specs.Blocks.{BlockCipher}
+use Rattle.format.specs.Edition.{Edition, noCheck}
+use Rattle.format.specs.Sealed.{blockFor}
+use Rattle.promises.proofs.ImageTerms.{blocks, written, image}
 use Rattle.cut.specs.declared.Counted.the-variants.{Blocks, TooLong}
 use Rattle.cut.specs.Cut.{most, blocksOf, partOf, joined}
 use Rattle.cut.proofs.CutLaws as laws
@@ -44,3 +50,31 @@ the-parts-fit p i h = laws.part-fits p i h
 
 pub parts-behind : (p : List ℕ) (n i : ℕ) → partOf (drop (n * 480) p) i ≡ partOf p (n + i)
 parts-behind p n i = laws.part-later p n i
+
+-- ---- the image of a payload
+
+-- n blocks from a number on, each of its own part of the payload and sealed on the check of the block before
+unfoldable pub sealedParts : Edition → (ek ck : BlockCipher) (count release : ℕ) (last : List ℕ) (number n : ℕ) → List ℕ → List (List ℕ)
+sealedParts ed ek ck count release last number zero p = []
+sealedParts ed ek ck count release last number (suc n) p =
+    let b = blockFor ed ek ck last number count release (partOf p number) in
+    b ∷ sealedParts ed ek ck count release (drop 496 b) (number + 1) n p
+
+module _ (ed : Edition) (ek ck : BlockCipher) (count release : ℕ) (p : List ℕ) where
+  written-from : (last : List ℕ) (number n : ℕ) → written ed ek ck count release last number n (drop (number * 480) p) ≡ sealedParts ed ek ck count release last number n p
+  unfolding written sealedParts partOf
+  written-from last number zero = refl
+  written-from last number (suc n) =
+      let b = blockFor ed ek ck last number count release (take 480 (drop (number * 480) p)) in
+      let e : (number + 1) * 480 ≡ number * 480 + 480 = omega arith in
+      let d : drop 480 (drop (number * 480) p) ≡ drop ((number + 1) * 480) p = drop-drop 480 (number * 480) p ∙ ap (λ (k : ℕ). drop k p) (sym e) in
+      ap (λ (q : List ℕ). b ∷ written ed ek ck count release (drop 496 b) (number + 1) n q) d
+      ∙ ap (λ (r : List (List ℕ)). b ∷ r) (written-from (drop 496 b) (number + 1) n)
+
+pub the-count-is-the-images : (p : List ℕ) → blocksOf (length p) ≡ blocks p
+unfolding blocksOf
+the-count-is-the-images p = refl
+
+pub the-image-is-of-the-parts : (ed : Edition) (ek ck : BlockCipher) (release : ℕ) (p : List ℕ)
+    → image ed ek ck release p ≡ sealedParts ed ek ck (blocks p) release noCheck 0 (blocks p) p
+the-image-is-of-the-parts ed ek ck release p = written-from ed ek ck (blocks p) release p noCheck 0 (blocks p)

@@ -8,7 +8,6 @@ fn when(number: u32) {
         8 => tell::say(b"the block is not the one expected"),
         9 => tell::say(b"the count differs from that of the first block accepted"),
         10 => tell::say(b"the release differs from that of the first block accepted"),
-        11 => tell::say(b"the number is not below the count"),
         12 => length(),
         13 => tell::say(b"the two reserved bytes are not 0"),
         14 => tell::say(b"the check is wrong"),
@@ -36,9 +35,6 @@ fn next(number: u32) {
         ),
         9 => tell::say(b"Blocks of two images are mixed: start anew with one release"),
         10 => tell::say(b"Blocks of two releases are mixed: start anew with one release"),
-        11 => tell::say(
-            b"No reader that was started with keys gives it: report the state that the caller held",
-        ),
         14 => check_wrong(),
         15 => other_key(),
         16 => tell::say(
