@@ -22,6 +22,7 @@ const cell cells[CELLS] = {
 uint8_t output[LONG];
 static uint8_t input[LONG], blocks[TURN * BLOCK], key[32], check_key[32], iv[16];
 static const image_place place = {0, TURN, 7};
+static const dock_block none;
 static dock_reader reader;
 
 static void fill(uint8_t *at, size_t length, uint32_t seed)
@@ -121,8 +122,8 @@ static void call_ours(int at, size_t key_length)
     else if (at == CHECK)
         check(key_length);
     else if (at == WRITE)
-        must(dock_write(key, key_length, check_key, key_length, place.next, place.count, place.release, input, PAYLOAD,
-                        output, BLOCK) == 0, "ours: write");
+        must(dock_write(key, key_length, check_key, key_length, place.next, place.count, place.release, 1, none,
+                        input, PAYLOAD, output, BLOCK) == 0, "ours: write");
     else
         turn(at == READ ? 1 : TURN);
 }

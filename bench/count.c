@@ -11,6 +11,7 @@ enum { MOST = 64 };
 
 static uint8_t key[32], check_key[32], input[MOST * 16], output[MOST * 16], block[512], plain[480];
 static const image_place place = {0, 1, 7};
+static const dock_block none;
 
 void must(int holds, const char *what)
 {
@@ -44,7 +45,7 @@ static void one_ours(const char *call, size_t size, const dock_reader *reader)
     else if (strcmp(call, "check") == 0)
         must(dock_check(check_key, size, input, 496).number == 0, call);
     else if (strcmp(call, "write") == 0)
-        must(dock_write(key, size, check_key, size, 0, 1, 7, plain, 480, block, 512) == 0, call);
+        must(dock_write(key, size, check_key, size, 0, 1, 7, 1, none, plain, 480, block, 512) == 0, call);
     else
         must(dock_read_turn(*reader, block, 512, 1, output, 480).accepted == 1, call);
 }
@@ -52,7 +53,7 @@ static void one_ours(const char *call, size_t size, const dock_reader *reader)
 static void ours(const char *call, size_t size, size_t times)
 {
     dock_reader reader = dock_read_start(key, size, check_key, size).reader;
-    must(dock_write(key, size, check_key, size, 0, 1, 7, plain, 480, block, 512) == 0, "write");
+    must(dock_write(key, size, check_key, size, 0, 1, 7, 1, none, plain, 480, block, 512) == 0, "write");
     if (strchr(call, '-'))
         mode_ours(call, size, 16 * times);
     else

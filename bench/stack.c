@@ -121,8 +121,10 @@ static void on_check_close(void)
 
 static void on_write(void)
 {
-    for (size_t length = 0; length <= 480; length += 160) {
-        uint32_t a = ON(dock_write)(key, key_length, key, key_length, 0, 1, 7, input, length, output, 512);
+    dock_block previous = {{1}};
+    for (uint32_t i = 0; i < 8; i++) {
+        size_t length = i / 2 * 160;
+        uint32_t a = ON(dock_write)(key, key_length, key, key_length, 0, 1, 7, i % 2 + 1, previous, input, length, output, 512);
         seen(a == 0);
     }
 }
@@ -138,25 +140,35 @@ static dock_reader started(void)
     return dock_read_start(key, key_length, key, key_length).reader;
 }
 
-static void make_image(void)
+static void make_image(uint32_t edition)
 {
-    for (uint32_t j = 0; j < TURN; j++)
-        if (dock_write(key, key_length, key, key_length, j, TURN, 7, input, 480, image + 512 * j, 512) != 0)
+    dock_block previous = {{0}};
+    for (uint32_t j = 0; j < TURN; j++) {
+        uint8_t *block = image + 512 * j;
+        if (dock_write(key, key_length, key, key_length, j, TURN, 7, edition, previous, input, 480, block, 512) != 0)
             exit(1);
+        memcpy(previous.bytes, block + 496, 16);
+    }
 }
 
-static void on_read_turn(void)
+static void on_turns(uint32_t edition)
 {
-    make_image();
+    make_image(edition);
     for (size_t k = 0; k <= TURN; k = k * 2 + (k == 0)) {
         dock_turn_answer a = ON(dock_read_turn)(started(), image, k * 512, TURN, output, LONG);
         seen(a.number == 0 && a.reason == 0 && a.accepted == k);
     }
 }
 
+static void on_read_turn(void)
+{
+    on_turns(1);
+    on_turns(2);
+}
+
 static void on_read_complete(void)
 {
-    make_image();
+    make_image(1);
     dock_reader reader = dock_read_turn(started(), image, sizeof image, TURN, output, LONG).reader;
     uint32_t a = ON(dock_read_complete)(reader);
     seen(a == 0);
@@ -202,7 +214,7 @@ static const struct {
     {"dock_check_start", on_check_start, 0, sizeof(dock_start_answer)},
     {"dock_check_feed", on_check_feed, 0, 0},
     {"dock_check_close", on_check_close, sizeof(dock_record), sizeof(dock_check_answer)},
-    {"dock_write", on_write, 40, 0},
+    {"dock_write", on_write, 64, 0},
     {"dock_read_start", on_read_start, 0, sizeof(dock_read_start_answer)},
     {"dock_read_turn", on_read_turn, sizeof(dock_reader), sizeof(dock_turn_answer)},
     {"dock_read_complete", on_read_complete, sizeof(dock_reader), 0},

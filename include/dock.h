@@ -49,8 +49,9 @@ enum {
     DOCK_COUNT_DIFFERS = 9,       // the count is not that of the first block accepted; the value is the count
     DOCK_RELEASE_DIFFERS = 10,    // the release is not that of the first block accepted; the value is the release
     DOCK_PAYLOAD_LENGTH = 12,     // the payload length is wrong for its place; the value is the length
-    DOCK_RESERVED_NOT_ZERO = 13,  // the two reserved bytes are not 0; the value is their number
-    DOCK_CHECK_WRONG = 14,        // the check is wrong
+    DOCK_EDITION_WRONG = 13,      // turn: bytes 14 and 15 are neither 0 nor 2, or not those of the edition of the first block accepted,
+                                  // and the value is their number, 0 too; writer: the edition is not 1 or 2
+    DOCK_CHECK_WRONG = 14,        // the check is wrong; in edition 2 also: sealed on another check than the one accepted last
     DOCK_FILL_NOT_ZERO = 15,      // after decryption the bytes behind the payload are not zero
     DOCK_AFTER_LAST = 16,         // a block is offered after the last
     DOCK_NOT_COMPLETE = 17,       // the last block has not been accepted
@@ -168,16 +169,20 @@ typedef struct {
     size_t rounds;
 } dock_key_schedule;
 
-// How far a reader has come: the number of the block expected next, which is how many blocks were accepted; and, where that is not 0,
-// the count and release of the image, which the first block accepted fixed.
+// How far a reader has come: the number of the block expected next, which is how many blocks were accepted; where that is not 0, the
+// count, release and edition of the image, which the first block accepted fixed; and the check of the block accepted last, in both
+// editions. After a start the edition is 0 and last is zeros; an accepted block leaves edition 1 or 2.
 typedef struct {
     uint32_t next;
     uint32_t count;
     uint32_t release;
+    uint32_t edition;
+    uint8_t last[16];
 } dock_progress;
 
-// A reader: the schedules of the encryption key and of the check key, and how far it has come. A caller may look at progress at any
-// time, and at count and release there where next is not 0; enc and chk hold key material and are for the calls alone.
+// A reader: the schedules of the encryption key and of the check key, and how far it has come. A caller may look at next and last in
+// progress at any time, and at count, release and edition there where next is not 0; enc and chk hold key material and are for the
+// calls alone.
 typedef struct {
     dock_key_schedule enc;
     dock_key_schedule chk;
@@ -204,9 +209,11 @@ typedef struct {
 
 // Seals a payload as block `number` (from 0) of `count` of a release, into the first 512 bytes of the output, with an encryption key
 // and a check key of 16, 24 or 32 bytes each, which may be equal. The payload has 480 bytes in every block but the last; there 1 to
-// 480, or 0 to 480 where count is 1. The answer is 0 or the first that applies of 1, 7, 8, 12, 4.
+// 480, or 0 to 480 where count is 1. The edition is 1 or 2. In edition 2 the block is sealed on the check of the block before, which is
+// bytes 496 to 511 of that one: previous. It is not looked at in edition 1, nor for number 0, which is sealed on sixteen zeros. The
+// answer is 0 or the first that applies of 1, 7, 8, 12, 13, 4.
 uint32_t dock_write(const uint8_t *ekey, size_t ekey_length, const uint8_t *ckey, size_t ckey_length,
-                    uint32_t number, uint32_t count, uint32_t release,
+                    uint32_t number, uint32_t count, uint32_t release, uint32_t edition, dock_block previous,
                     const uint8_t *payload, size_t payload_length, uint8_t *output, size_t output_length);
 
 // A reader that expects block 0. Refused by 1 for either key, with the zero reader, which accepts nothing: a block gets 14.
@@ -219,6 +226,10 @@ dock_read_start_answer dock_read_start(const uint8_t *ekey, size_t ekey_length, 
 // numbers it holds. A block is refused by the first that applies of 16, 14, 7, 8, 9, 10, 12, 13, 15: the output from its place on and
 // the reader are as the block before it left them, so it may be fetched and offered again. 16 is given where next is not 0 and not
 // below count.
+// Both editions are read. 2 in bytes 14 and 15 selects the cover of edition 2, whose check covers the reader's last besides; any other
+// value there selects that of edition 1. Where next is not 0, the block's edition must be the reader's, and an edition there that is
+// neither 1 nor 2 refuses every block by 13 that none of the others before it refuses. So in edition 2 a block of another build, or one
+// doubled, skipped or out of order, gets 14.
 dock_turn_answer dock_read_turn(dock_reader reader, const uint8_t *blocks, size_t blocks_length, size_t asked,
                                 uint8_t *output, size_t output_length);
 

@@ -16,6 +16,8 @@ RELEASE = 7
 COUNT = 6
 LINE = b"Sample release 7 of a dock cabinet's firmware.\n"
 PAYLOAD = (LINE * 60)[:5 * 480 + 123]
+# Built again: as long, and under the same release number.
+AGAIN = PAYLOAD.replace(b"firmware.", b"firmware!")
 
 
 def encrypted(mode, data):
@@ -31,24 +33,21 @@ def check(message):
     return maker.finalize()
 
 
-def block(number, payload, mark, tail):
-    """Block `number` of the sample image; an edition has a mark in the header and a tail that the check covers besides."""
+def block(number, payload, edition, previous):
+    """Block `number` of a sample image; in edition 2 its check covers the check before it."""
     header = b"".join(value.to_bytes(4, "big") for value in (number, COUNT, RELEASE))
-    header += len(payload).to_bytes(2, "big") + mark.to_bytes(2, "big")
+    header += len(payload).to_bytes(2, "big") + (2 if edition == 2 else 0).to_bytes(2, "big")
     vector = encrypted(modes.ECB(), header)
     front = header + encrypted(modes.CBC(vector), payload.ljust(480, b"\0"))
-    return front + check(front + tail)
+    return front + check(front + previous if edition == 2 else front)
 
 
-def sealed(edition):
-    """The sample image in that edition. In edition 2 each check covers the one before too, sixteen zeros before the first."""
-    image = b""
-    last = bytes(16)
-    for n in range(COUNT):
-        payload = PAYLOAD[480 * n:480 * n + 480]
-        made = block(n, payload, 2, last) if edition == 2 else block(n, payload, 0, b"")
-        last = made[496:]
-        image += made
+def image_of(payload, edition):
+    """The whole image of a payload."""
+    image, previous = b"", bytes(16)
+    for number in range(COUNT):
+        image += block(number, payload[480 * number:480 * number + 480], edition, previous)
+        previous = image[-16:]
     return image
 
 
@@ -59,12 +58,14 @@ def main():
     (here / "keys").write_bytes(keys)
     (here / "file").write_bytes(PAYLOAD)
     for name, edition in (("image", 1), ("image-2", 2)):
-        whole = sealed(edition)
+        whole = image_of(PAYLOAD, edition)
         half = len(whole) // 2
         (here / name).write_bytes(whole)
         # Its size is right: the room was reserved, and the second half never came.
         (here / (name + "-cut")).write_bytes(whole[:half].ljust(len(whole), b"\0"))
-    image = sealed(1)
+    # Each block is right in its own build.
+    (here / "image-2-mixed").write_bytes(image_of(PAYLOAD, 2)[:half] + image_of(AGAIN, 2)[half:])
+    image = image_of(PAYLOAD, 1)
     # The first block once more behind the last.
     (here.parent / "crates/listing/stdin").write_bytes(keys + image + image[:512])
     (here.parent / "crates/release/data/keys").write_bytes(keys)

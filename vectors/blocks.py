@@ -187,7 +187,7 @@ def bad_spaces(book):
 def bad_numbers(book):
     """Numbers that do not fit, or are not decimal digits alone; good or bad in the rest, the answer is one."""
     book.group("bad lines: a number that does not fit 32 bits (`write`) or 64 bits (`read-turn`)", "docs/CONSOLE.md")
-    write = "write %s %s %%s %%s %%s - -" % (KEY, KEY)
+    write = "write %s %s %%s %%s %%s 1 %s - -" % (KEY, KEY, "00" * 16)
     for big in ("4294967296", "18446744073709551616", "99999999999999999999999999", "0000004294967296"):
         book.bad(write % (big, "1", "0"))
         book.bad(write % ("0", big, "0"))

@@ -13,6 +13,7 @@ ORDERS = "document 01, orders"
 OPENSSL = "OpenSSL; document 01, image blocks"
 STATE = "docs/CONSOLE.md (zero state) with docs/DECISIONS.md, reading 10"
 LARGEST = 2**32 - 1
+ZEROS = bytes(16)
 
 
 def key(size, start):
@@ -21,6 +22,8 @@ def key(size, start):
 
 
 EKEY, CKEY = key(16, 0x21), key(16, 0x84)
+# What `write` is given for the previous check where nothing depends on it.
+UNUSED = key(16, 0xC7)
 
 
 def openssl(words, data):
@@ -46,9 +49,9 @@ def check_of(k, message):
     return bytes.fromhex(openssl(words, message).decode().strip())
 
 
-def head_of(number, count, release, length, reserved=0):
+def head_of(number, count, release, length, mark=0):
     """The first 16 bytes of a block, right or wrong."""
-    fields = ((number, 4), (count, 4), (release, 4), (length, 2), (reserved, 2))
+    fields = ((number, 4), (count, 4), (release, 4), (length, 2), (mark, 2))
     return b"".join(value.to_bytes(size, "big") for value, size in fields)
 
 
@@ -58,10 +61,10 @@ def filled(payload):
 
 
 @lru_cache(maxsize=None)
-def sealed(head, body, ekey=EKEY, ckey=CKEY):
-    """The block of any header over any 480 bytes."""
+def sealed(head, body, ekey=EKEY, ckey=CKEY, tail=b""):
+    """The block of any header over any 480 bytes, and what its check covers behind bytes 0 to 495."""
     front = head + enc("cbc", ekey, body, ["-iv", iv_of(ekey, head)])
-    return front + check_of(ckey, front)
+    return front + check_of(ckey, front + tail)
 
 
 def opened(block, ekey):
@@ -80,7 +83,7 @@ def block(number, count, release, payload, ekey=EKEY, ckey=CKEY):
 
 
 class Image:
-    """Payloads of 480 bytes each and a last one of the length given, with their blocks."""
+    """Payloads of 480 bytes each and a last one of the length given, with their blocks of edition 1."""
 
     def __init__(self, count, release, last, ekey=EKEY, ckey=CKEY):
         sizes = [480] * (count - 1) + [last]
@@ -121,9 +124,10 @@ def taken(book, image, number):
     turn(book, 1, [image.blocks[number]], filler(480), [image.payloads[number]])
 
 
-def write_line(ekey, ckey, number, count, release, payload, out):
+def write_line(ekey, ckey, number, count, release, payload, out, edition=1, previous=UNUSED):
     """One line of the writer."""
-    return "write %s %s %s %s %s %s %s" % (h(ekey), h(ckey), number, count, release, h(payload), h(out))
+    which = "%s %s %s %s" % (number, count, release, edition)
+    return "write %s %s %s %s %s %s" % (h(ekey), h(ckey), which, h(previous), h(payload), h(out))
 
 
 def written(book, number, count, release, payload, out=filler(512), ekey=EKEY, ckey=CKEY):
@@ -132,9 +136,9 @@ def written(book, number, count, release, payload, out=filler(512), ekey=EKEY, c
     book.add(write_line(ekey, ckey, number, count, release, payload, out), "0 " + h(laid_over(result, out)))
 
 
-def unwritten(book, answer, number, count, payload, out=filler(512), ekey=EKEY, ckey=CKEY):
+def unwritten(book, answer, number, count, payload, out=filler(512), ekey=EKEY, ckey=CKEY, edition=1):
     """A refused block: the output stays."""
-    book.add(write_line(ekey, ckey, number, count, 77, payload, out), "%d %s" % (answer, h(out)))
+    book.add(write_line(ekey, ckey, number, count, 77, payload, out, edition), "%d %s" % (answer, h(out)))
 
 
 def nothing_started(book):
@@ -228,18 +232,24 @@ def writer_refusals(book):
     book.group("`write` refused by 4: outputs of 0, 1, 480, 496 and 511 bytes", "document 01, refusal 4")
     for size in (0, 1, 480, 496, 511):
         unwritten(book, 4, 0, 1, data(480), filler(size))
+    book.group("`write` refused by 13: editions of 0, 3, 4, 255, 256, 258, 65,537, 65,538 and 2^32-1",
+               "document 02, E10")
+    for edition in (0, 3, 4, 255, 256, 258, 65537, 65538, LARGEST):
+        unwritten(book, 13, 0, 1, data(480), edition=edition)
+        unwritten(book, 13, 1, 2, data(9), edition=edition)
 
 
 def writer_orders(book):
     """Every two of the writer's refusals, and all of them together: the first in its order is given."""
-    book.group("order of the writer, 1, 7, 8, 12, 4: every two of them, and all", ORDERS)
-    order = (1, 7, 8, 12, 4)
+    book.group("order of the writer, 1, 7, 8, 12, 13, 4: every two of them, and all", ORDERS + "; document 02, E10")
+    order = (1, 7, 8, 12, 13, 4)
     for faults in list(combinations(order, 2)) + [order]:
         count = 65536 if 7 in faults else 3
         number = 70000 if 8 in faults else 0
         payload = data(481 if 12 in faults else 480)
         out = filler(511 if 4 in faults else 512)
-        unwritten(book, faults[0], number, count, payload, out, ekey=counting(17) if 1 in faults else EKEY)
+        ekey = counting(17) if 1 in faults else EKEY
+        unwritten(book, faults[0], number, count, payload, out, ekey=ekey, edition=3 if 13 in faults else 1)
     book.group("order of the writer: a count of 0, below which no number is", ORDERS)
     unwritten(book, 7, 0, 0, data(480))
     unwritten(book, 7, LARGEST, 0, data(481), b"")
@@ -426,8 +436,8 @@ def block_refusals(book):
         refused(book, sealed(head_of(2, 3, release, 100), filled(data(100))), 10, release)
     for length in (0, 481, 512, 1024, 65535):
         refused(book, sealed(head_of(2, 3, 500, length), bytes(480)), 12, length)
-    for reserved in (1, 255, 256, 32768, 65535):
-        refused(book, sealed(head_of(2, 3, 500, 100, reserved), filled(data(100))), 13, reserved)
+    for mark in (1, 255, 256, 32768, 65535):
+        refused(book, sealed(head_of(2, 3, 500, 100, mark), filled(data(100))), 13, mark)
     complete(book, 17)
     taken(book, image, 2)
     complete(book, 0)
@@ -465,10 +475,10 @@ def with_faults(faults):
     """A last block of three that has these faults, and the value that its first one holds."""
     number, count = (0 if 8 in faults else 2), (65536 if 7 in faults else 4 if 9 in faults else 3)
     release, length = (501 if 10 in faults else 500), (0 if 12 in faults else 100)
-    reserved = 9 if 13 in faults else 0
+    mark = 9 if 13 in faults else 0
     body = data(480) if 15 in faults else filled(data(length))
-    b = sealed(head_of(number, count, release, length, reserved), body)
-    held = {7: count, 8: number, 9: count, 10: release, 12: length, 13: reserved}
+    b = sealed(head_of(number, count, release, length, mark), body)
+    held = {7: count, 8: number, 9: count, 10: release, 12: length, 13: mark}
     return (spoiled(b, 300, 64) if 14 in faults else b), held.get(faults[0], "-")
 
 
@@ -623,18 +633,28 @@ def every_byte(book):
 def bad_lines(book):
     """Lines outside the form, which change nothing held."""
     image = Image(2, 1, 5)
-    e, c, p, o = h(EKEY), h(CKEY), h(data(4)), h(filler(512))
+    e, c, u, p, o = h(EKEY), h(CKEY), h(UNUSED), h(data(4)), h(filler(512))
     b, out = h(image.blocks[1]), h(filler(480))
-    book.group("bad lines for the four calls; they change nothing held, and neither does `write`", "docs/CONSOLE.md")
+    book.group("bad lines for `write`; they change nothing held", "docs/CONSOLE.md")
     start(book)
     taken(book, image, 0)
-    for text in ("write", "write %s %s 0 1 2 %s" % (e, c, p), "write %s %s 0 1 2 %s %s -" % (e, c, p, o),
-                 "write %s %s - 1 2 %s %s" % (e, c, p, o), "write %s %s 0 -1 2 %s %s" % (e, c, p, o),
-                 "write %s %s 0 1 4294967296 %s %s" % (e, c, p, o), "write %s %s 0 1 2 %s0 %s" % (e, c, p, o),
-                 "write %s %s 0 1 2 %s %s0" % (e, c, p, o), "write %s0 %s 0 1 2 %s %s" % (e, c, p, o),
-                 "write %s %s 0 1 2  %s %s" % (e, c, p, o), "write %s %s 0 1 2 %s %s " % (e, c, p, o),
-                 "Write %s %s 0 1 2 %s %s" % (e, c, p, o)):
-        book.bad(text)
+    for text in ("write", "write %s %s 0 1 2 1 {} %s" % (e, c, p), "write %s %s 0 1 2 1 {} %s %s -" % (e, c, p, o),
+                 "write %s %s - 1 2 1 {} %s %s" % (e, c, p, o), "write %s %s 0 -1 2 1 {} %s %s" % (e, c, p, o),
+                 "write %s %s 0 1 4294967296 1 {} %s %s" % (e, c, p, o), "write %s %s 0 1 2 1 {} %s0 %s" % (e, c, p, o),
+                 "write %s %s 0 1 2 1 {} %s %s0" % (e, c, p, o), "write %s0 %s 0 1 2 1 {} %s %s" % (e, c, p, o),
+                 "write %s %s 0 1 2 1 {}  %s %s" % (e, c, p, o), "write %s %s 0 1 2 1 {} %s %s " % (e, c, p, o),
+                 "Write %s %s 0 1 2 1 {} %s %s" % (e, c, p, o), "write %s %s 0 1 2 4294967296 {} %s %s" % (e, c, p, o),
+                 "write %s %s 0 1 2 4294967297 {} %s %s" % (e, c, p, o), "write %s %s 0 1 2 - {} %s %s" % (e, c, p, o),
+                 "write %s %s 0 1 2 +1 {} %s %s" % (e, c, p, o), "write %s %s 0 1 2 1 {}0 %s %s" % (e, c, p, o),
+                 "write %s %s 0 1 2 1 {}00 %s %s" % (e, c, p, o), "write %s %s 0 1 2 1 %s %s %s" % (e, c, u[2:], p, o),
+                 "write %s %s 0 1 2 1 %s %s %s" % (e, c, u[1:], p, o), "write %s %s 0 1 2 1 - %s %s" % (e, c, p, o),
+                 "write %s %s 0 1 2 3 %s %s %s" % (e, c, u[2:], p, o), "write %s %s 0 1 2 {} 1 %s %s" % (e, c, p, o)):
+        book.bad(text.replace("{}", u))
+    book.group("bad lines: `write` without edition and previous check, as it was before, and with one of them",
+               "docs/CONSOLE.md")
+    for words in ("", " 1", " " + u):
+        book.bad("write %s %s 0 1 2%s %s %s" % (e, c, words, p, o))
+    book.group("bad lines for the reader's calls; they change nothing held, and neither does `write`", "docs/CONSOLE.md")
     for text in ("read-start", "read-start " + e, "read-start %s %s %s" % (e, c, c), "read-start %s0 %s" % (e, c),
                  "read-start %s %sg" % (e, c[1:]), "read-start  %s %s" % (e, c), "read-start %s %s " % (e, c),
                  "read-start\t%s %s" % (e, c), "read_start %s %s" % (e, c), "read-complete ", " read-complete",
@@ -661,13 +681,15 @@ def bad_lines(book):
 
 def main(folder):
     """Write the lines of this part."""
-    book = Book("Lines for release images")
+    book = Book("Lines for release images of edition 1")
     book.remarks = ["To make the files again: `python3 image.py FOLDER`, with the command `openssl` of version 3 (Debian "
                     "12, package openssl). Each input line has exactly one answer line."]
     book.remark("Made by image.py. No answer comes from a program of this project. The script puts blocks together by the "
                 "layout of document 01; their IVs and bodies come from `openssl enc` (ECB of one block, CBC without "
                 "padding), their checks from `openssl mac` (CMAC). What a call answers to them, numbers, values and places, is stated "
-                "case by case in the script, by the rule that the table names.")
+                "case by case in the script, by the rule that the table names. Every `write` line here is of edition 1 but "
+                "those that are refused by 13, and its previous check is no zeros: nothing may depend on it. edition.py has the "
+                "lines of edition 2.")
     book.remark("The lines are one sequence: a reading goes over many lines, so no line may be left out alone. The first "
                 "ones ask before any start, so nothing that starts a reader may stand before them.")
     for part in (before_any_start, writer_sizes, writer_keys, writer_refusals, writer_orders, start_refusals, whole_images,

@@ -4,7 +4,7 @@
 //     rt staticlib dock
 //     cc -std=c11 -O2 -Wall -Wextra -Iinclude examples/c/seal_and_read.c target/staticlib/libdock.a -o seal_and_read
 // Run; KEYS is a file of 32 bytes, encryption key and check key of 16 each, and samples/keys is one for trials:
-//     ./seal_and_read seal KEYS RELEASE FILE IMAGE
+//     ./seal_and_read seal KEYS RELEASE EDITION FILE IMAGE
 //     ./seal_and_read read KEYS IMAGE FILE
 #include <errno.h>
 #include <inttypes.h>
@@ -34,8 +34,8 @@ static const char *const words[] = {
     "its release is not that of the first block",
     "its number is not below its count",
     "its payload length is wrong for its place",
-    "its reserved bytes are not 0",
-    "its check is wrong: it is damaged, or the check key is another",
+    "its edition is not that of the first block, or is none",
+    "its check is wrong: it is damaged, of another build or out of its turn, or the check key is another",
     "its fill is not zero: the encryption key is another, most likely",
     "it comes after the last block",
     "the last block is missing",
@@ -78,13 +78,14 @@ static bool read_keys(const char *path, key_pair *keys) {
     return right || failed(path, "the keys are 32 bytes, encryption key and check key of 16 each");
 }
 
-static bool read_release(const char *text, uint32_t *release) {
+// The library itself says which editions there are.
+static bool read_number(const char *text, uint32_t *number) {
     char *end;
     errno = 0;
     unsigned long value = strtoul(text, &end, 10);
     bool right = *text >= '0' && *text <= '9' && *end == 0 && errno == 0 && value <= UINT32_MAX;
-    *release = (uint32_t)value;
-    return right || failed(text, "a release is a number of 32 bits");
+    *number = (uint32_t)value;
+    return right || failed(text, "a release or an edition is a number of 32 bits");
 }
 
 // An empty file is one block with no payload.
@@ -100,13 +101,24 @@ static bool size_of(FILE *file, const char *path, size_t *size) {
     return found || failed(path, "its size cannot be told");
 }
 
-static bool seal_blocks(const key_pair *keys, uint32_t release, uint32_t count, FILE *from, FILE *to) {
-    uint8_t payload[DOCK_IMAGE_PAYLOAD], block[DOCK_IMAGE_BLOCK];
+typedef struct {
+    bool sealing;
+    uint32_t release;
+    uint32_t edition;
+    const char *from;
+    const char *to;
+} task;
+
+// Each block is handed the check of the one before: its last 16 bytes. Edition 1 and block 0 do without.
+static bool seal_blocks(const key_pair *keys, const task *t, uint32_t count, FILE *from, FILE *to) {
+    uint8_t payload[DOCK_IMAGE_PAYLOAD], block[DOCK_IMAGE_BLOCK] = {0};
     uint32_t answer = DOCK_DONE, number = 0;
     while (number < count && answer == DOCK_DONE) {
         size_t length = fread(payload, 1, sizeof payload, from);
+        dock_block previous;
+        memcpy(previous.bytes, block + sizeof block - sizeof previous.bytes, sizeof previous.bytes);
         answer = dock_write(keys->encryption, sizeof keys->encryption, keys->check, sizeof keys->check,
-                            number, count, release, payload, length, block, sizeof block);
+                            number, count, t->release, t->edition, previous, payload, length, block, sizeof block);
         if (answer == DOCK_DONE && fwrite(block, 1, sizeof block, to) != sizeof block) break;
         if (answer == DOCK_DONE) number++;
     }
@@ -115,13 +127,13 @@ static bool seal_blocks(const key_pair *keys, uint32_t release, uint32_t count, 
     return number == count;
 }
 
-static bool seal(const key_pair *keys, uint32_t release, FILE *from, const char *path, FILE *to) {
+static bool seal(const key_pair *keys, const task *t, FILE *from, FILE *to) {
     size_t size;
-    if (!size_of(from, path, &size)) return false;
+    if (!size_of(from, t->from, &size)) return false;
     size_t count = blocks_for(size);
-    if (count > DOCK_MOST_BLOCKS) return failed(path, "it is larger than an image can hold, which is 31456800 bytes");
-    if (!seal_blocks(keys, release, (uint32_t)count, from, to)) return false;
-    printf("sealed %zu bytes as release %" PRIu32 ", in %zu blocks\n", size, release, count);
+    if (count > DOCK_MOST_BLOCKS) return failed(t->from, "it is larger than an image can hold, which is 31456800 bytes");
+    if (!seal_blocks(keys, t, (uint32_t)count, from, to)) return false;
+    printf("sealed %zu bytes as release %" PRIu32 ", edition %" PRIu32 ", in %zu blocks\n", size, t->release, t->edition, count);
     return true;
 }
 
@@ -135,7 +147,7 @@ static bool told(const dock_turn_answer *turn, uint32_t first) {
     if (turn->reason == 0) return true;
     printf("the block offered as number %" PRIu32 " was refused: ", turn->reader.progress.next);
     printf("refusal %" PRIu32 ", %s", turn->reason, in_words(turn->reason));
-    if (turn->reason >= DOCK_COUNT_RANGE && turn->reason <= DOCK_RESERVED_NOT_ZERO) printf(" (found: %" PRIu32 ")", turn->value);
+    if (turn->reason >= DOCK_COUNT_RANGE && turn->reason <= DOCK_EDITION_WRONG) printf(" (found: %" PRIu32 ")", turn->value);
     printf("\n");
     return false;
 }
@@ -164,22 +176,16 @@ static bool read_image(const key_pair *keys, FILE *from, FILE *to) {
     }
     dock_reader reader = read_turns(start.reader, from, to);
     uint32_t answer = dock_read_complete(reader);
-    if (answer == DOCK_DONE) printf("the image is complete: release %" PRIu32 ", %" PRIu32 " blocks\n", reader.progress.release, reader.progress.count);
+    dock_progress p = reader.progress;
+    if (answer == DOCK_DONE) printf("the image is complete: release %" PRIu32 ", edition %" PRIu32 ", %" PRIu32 " blocks\n", p.release, p.edition, p.count);
     else printf("the image is not complete: %" PRIu32 ", %s. Install nothing of it\n", answer, in_words(answer));
     wipe(&start, sizeof start);
     wipe(&reader, sizeof reader);
     return answer == DOCK_DONE;
 }
 
-typedef struct {
-    bool sealing;
-    uint32_t release;
-    const char *from;
-    const char *to;
-} task;
-
 static bool carried_out(const task *t, const key_pair *keys, FILE *from, FILE *to) {
-    if (t->sealing) return seal(keys, t->release, from, t->from, to);
+    if (t->sealing) return seal(keys, t, from, to);
     return read_image(keys, from, to);
 }
 
@@ -199,15 +205,15 @@ static bool through_files(const task *t, const key_pair *keys) {
 }
 
 static int usage(void) {
-    fputs("usage: seal_and_read seal KEYS RELEASE FILE IMAGE\n       seal_and_read read KEYS IMAGE FILE\n", stderr);
+    fputs("usage: seal_and_read seal KEYS RELEASE EDITION FILE IMAGE\n       seal_and_read read KEYS IMAGE FILE\n", stderr);
     return 2;
 }
 
 int main(int count, char **text) {
     key_pair keys;
-    task t = {.sealing = count == 6 && strcmp(text[1], "seal") == 0};
+    task t = {.sealing = count == 7 && strcmp(text[1], "seal") == 0};
     if (!t.sealing && !(count == 5 && strcmp(text[1], "read") == 0)) return usage();
-    if (t.sealing && !read_release(text[3], &t.release)) return 2;
+    if (t.sealing && !(read_number(text[3], &t.release) && read_number(text[4], &t.edition))) return 2;
     t.from = text[count - 2];
     t.to = text[count - 1];
     bool right = read_keys(text[2], &keys) && through_files(&t, &keys);

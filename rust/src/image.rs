@@ -4,16 +4,29 @@ use crate::refusal::Refusal;
 use crate::sys;
 use core::fmt;
 
-/// Seals a payload as block `number`, from 0, of `count` of a release, into the first 512 bytes of the output.
+/// What a block says of itself.
+#[derive(Clone, Copy, PartialEq, Eq, Debug)]
+pub struct Numbers {
+    /// Its number, from 0.
+    pub number: u32,
+    /// How many blocks the image has, 1 to 65,535.
+    pub count: u32,
+    /// The release.
+    pub release: u32,
+    /// The edition, 1 or 2.
+    pub edition: u32,
+}
+
+/// Seals a payload as one block of an image, into the first 512 bytes of the output.
 ///
 /// The keys have 16, 24 or 32 bytes each and may be equal. The payload has 480 bytes in every block but the last; there 1 to 480,
-/// or 0 to 480 where the count is 1. Refused by the first that applies of 1, 7, 8, 12, 4.
+/// or 0 to 480 where the count is 1. In edition 2 the block is sealed on the check of the block before, which is bytes 496 to 511 of
+/// that one: `previous`. It is not looked at in edition 1, nor for number 0. Refused by the first that applies of 1, 7, 8, 12, 13, 4.
 pub fn write(
     encryption_key: &[u8],
     check_key: &[u8],
-    number: u32,
-    count: u32,
-    release: u32,
+    numbers: Numbers,
+    previous: [u8; 16],
     payload: &[u8],
     output: &mut [u8],
 ) -> Result<(), Refusal> {
@@ -24,9 +37,11 @@ pub fn write(
             encryption_key.len(),
             check_key.as_ptr(),
             check_key.len(),
-            number,
-            count,
-            release,
+            numbers.number,
+            numbers.count,
+            numbers.release,
+            numbers.edition,
+            sys::Block { bytes: previous },
             payload.as_ptr(),
             payload.len(),
             output.as_mut_ptr(),
@@ -82,7 +97,9 @@ impl Reader {
     /// Takes in lent blocks of 512 bytes, as many as asked for at most, 1 to 128, up to the first that is refused.
     ///
     /// The output has 480 bytes for each block to be handled; the decrypted 480 bytes of block j of the turn go to 480 j. Refused as a
-    /// whole by the first that applies of 5, 6, 4; a block is refused by the first of 16, 14, 7, 8, 9, 10, 12, 13, 15.
+    /// whole by the first that applies of 5, 6, 4; a block is refused by the first of 16, 14, 7, 8, 9, 10, 12, 13, 15. Both editions
+    /// are read, and the first block accepted fixes the edition; in edition 2 a block of another build, or one doubled, skipped or out
+    /// of order, gets 14.
     pub fn turn(
         &mut self,
         blocks: &[u8],
@@ -125,6 +142,16 @@ impl Reader {
     pub fn release(&self) -> Option<u32> {
         Some(self.0.progress.release).filter(|_| self.expected() != 0)
     }
+
+    /// The edition, 1 or 2, once a block has been accepted.
+    pub fn edition(&self) -> Option<u32> {
+        Some(self.0.progress.edition).filter(|_| self.expected() != 0)
+    }
+
+    /// The check of the block accepted last, once a block has been accepted.
+    pub fn last(&self) -> Option<[u8; 16]> {
+        Some(self.0.progress.last).filter(|_| self.expected() != 0)
+    }
 }
 
 fn turn_of(answer: &sys::TurnAnswer) -> Turn {
@@ -153,6 +180,7 @@ impl fmt::Debug for Reader {
             .field("expected", &self.expected())
             .field("count", &self.count())
             .field("release", &self.release())
+            .field("edition", &self.edition())
             .finish_non_exhaustive()
     }
 }

@@ -8,7 +8,8 @@
 //! ```
 //! let key = *b"0123456789abcdef";
 //! let mut block = [0; 512];
-//! dock::write(&key, &key, 0, 1, 7, b"a very small release", &mut block)?;
+//! let numbers = dock::Numbers { number: 0, count: 1, release: 7, edition: 2 };
+//! dock::write(&key, &key, numbers, [0; 16], b"a very small release", &mut block)?;
 //! let mut reader = dock::Reader::start(&key, &key)?;
 //! let mut payload = [0; 480];
 //! let turn = reader.turn(&block, 128, &mut payload)?;
@@ -35,7 +36,7 @@ mod wrap;
 
 pub use check::{check, Check};
 pub use cipher::{decrypt, encrypt, product, schedule, Schedule};
-pub use image::{write, Reader, Stop, Turn};
+pub use image::{write, Numbers, Reader, Stop, Turn};
 pub use modes::{
     cbc_decrypt, cbc_encrypt, cfb_decrypt, cfb_encrypt, ecb_decrypt, ecb_encrypt, ofb,
 };

@@ -28,9 +28,10 @@ pub enum Refusal {
     ReleaseDiffers,
     /// 12: the payload length is wrong for its place.
     PayloadLength,
-    /// 13: the two reserved bytes are not 0.
-    ReservedNotZero,
-    /// 14: the check is wrong.
+    /// 13: bytes 14 and 15 are neither 0 nor 2, or not those of the edition of the first block accepted; to the writer, an edition
+    /// that is not 1 or 2.
+    EditionWrong,
+    /// 14: the check is wrong; in edition 2 also: the block was sealed on another check than the one accepted last.
     CheckWrong,
     /// 15: after decryption the bytes behind the payload are not zero.
     FillNotZero,
@@ -69,7 +70,7 @@ const NAMED: [(u32, Refusal, &str); 18] = [
         PayloadLength,
         "the payload length is wrong for its place",
     ),
-    (13, ReservedNotZero, "the reserved bytes are not 0"),
+    (13, EditionWrong, "the edition is wrong"),
     (14, CheckWrong, "the check is wrong"),
     (15, FillNotZero, "the fill is not zero"),
     (16, AfterLast, "the block comes after the last"),
@@ -92,7 +93,7 @@ impl Refusal {
 
     /// Whether a block that is refused for this reason is shown with the value found.
     pub(crate) fn holds_value(self) -> bool {
-        (CountRange.number()..=ReservedNotZero.number()).contains(&self.number())
+        (CountRange.number()..=EditionWrong.number()).contains(&self.number())
     }
 
     /// The refusal of a number; 0 is none.

@@ -70,6 +70,8 @@ pub struct Progress {
     pub next: u32,
     pub count: u32,
     pub release: u32,
+    pub edition: u32,
+    pub last: [u8; 16],
 }
 
 #[repr(C)]
@@ -124,6 +126,8 @@ impl Reader {
             next: 0,
             count: 0,
             release: 0,
+            edition: 0,
+            last: [0; 16],
         },
     };
 }
@@ -198,7 +202,7 @@ extern "C" {
 
     pub fn dock_write(
         ekey: *const u8, ekey_length: usize, ckey: *const u8, ckey_length: usize,
-        number: u32, count: u32, release: u32,
+        number: u32, count: u32, release: u32, edition: u32, previous: Block,
         payload: *const u8, payload_length: usize, output: *mut u8, output_length: usize,
     ) -> u32;
     pub fn dock_read_start(

@@ -3,8 +3,8 @@
 //! Where the page that fixes the form of the lines is silent, it is read so:
 //!
 //! - A line is judged whole before anything is called: bad hex beside a key of a wrong length
-//!   answers `?`, not 1. So does a block that is not 16 bytes, or a factor of `product` that is
-//!   not one byte, `-` too.
+//!   answers `?`, not 1. So does a block or a previous check that is not 16 bytes, or a factor
+//!   of `product` that is not one byte, `-` too.
 //! - First words are in lower case only. Two spaces in a row make an empty word, which is
 //!   neither hex nor a number; so do a space at the front and one at the end.
 //! - `-` is no bytes where bytes are due and bad where a number is due. Inside a longer word it
@@ -22,7 +22,7 @@ use crate::aes::{Block, KeySchedule};
 use crate::cmac::{self, RunningCheck};
 use crate::field;
 use crate::hex;
-use crate::image::{self, Reader, Turn};
+use crate::image::{self, Reader, Turn, Which};
 use crate::modes::{self, Operation};
 use crate::refusal::{number_of, Refusal};
 use crate::wrap;
@@ -205,23 +205,33 @@ fn operation_named(name: &[u8]) -> Option<Operation> {
 }
 
 fn write(words: &[&[u8]]) -> Option<String> {
-    let [encryption_key, check_key, block_number, count, release, payload, output] = words else {
+    let [encryption_key, check_key, which @ .., previous, payload, output] = words else {
         return None;
     };
     let (encryption_key, check_key) = (hex::read(encryption_key)?, hex::read(check_key)?);
-    let (block_number, count) = (number(block_number)?, number(count)?);
-    let (release, payload) = (number(release)?, hex::read(payload)?);
-    let mut output = hex::read(output)?;
+    let (which, previous) = (which_block(which)?, bytes(previous)?);
+    let (payload, mut output) = (hex::read(payload)?, hex::read(output)?);
     let result = image::write(
         &encryption_key,
         &check_key,
-        block_number,
-        count,
-        release,
+        which,
+        &previous,
         &payload,
         &mut output,
     );
     Some(format!("{} {}", number_of(&result), hex::shown(&output)))
+}
+
+fn which_block(words: &[&[u8]]) -> Option<Which> {
+    let [block_number, count, release, edition] = words else {
+        return None;
+    };
+    Some(Which {
+        number: number(block_number)?,
+        count: number(count)?,
+        release: number(release)?,
+        edition: number(edition)?,
+    })
 }
 
 type WrapCall = fn(&[u8], &[u8], &mut [u8]) -> Result<(), Refusal>;

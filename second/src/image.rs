@@ -1,4 +1,4 @@
-//! Release images: the blocks of 512 bytes, their writer and their reader.
+//! Release images of both editions: the blocks of 512 bytes, their writer and their reader.
 
 use crate::aes::{Block, KeySchedule};
 use crate::cmac::check;
@@ -11,6 +11,49 @@ const HEADER: usize = 16;
 const SEALED: usize = HEADER + PAYLOAD;
 const LAST_COUNT: u32 = 65_535;
 
+/// What is covered for the previous check before block 0.
+pub const NO_CHECK: Block = [0; 16];
+
+/// What bytes 14 and 15 of a block say, as far as they are right.
+#[derive(Clone, Copy, PartialEq, Eq, Debug)]
+pub enum Edition {
+    First,
+    Second,
+}
+
+impl Edition {
+    pub fn numbered(number: u32) -> Option<Edition> {
+        match number {
+            1 => Some(Edition::First),
+            2 => Some(Edition::Second),
+            _ => None,
+        }
+    }
+
+    pub fn mark(self) -> u16 {
+        match self {
+            Edition::First => 0,
+            Edition::Second => 2,
+        }
+    }
+
+    fn marked(mark: u16) -> Option<Edition> {
+        match mark {
+            0 => Some(Edition::First),
+            2 => Some(Edition::Second),
+            _ => None,
+        }
+    }
+}
+
+/// What the check covers behind bytes 0 to 495: under mark 2 the check before, under every other mark nothing.
+pub fn tail(mark: u16, previous: &Block) -> &[u8] {
+    match Edition::marked(mark) {
+        Some(Edition::Second) => previous,
+        Some(Edition::First) | None => &[],
+    }
+}
+
 /// Bytes 0 to 15 of a block.
 #[derive(Clone, Copy, PartialEq, Eq, Debug)]
 pub struct Header {
@@ -18,7 +61,7 @@ pub struct Header {
     pub count: u32,
     pub release: u32,
     pub length: u16,
-    pub reserved: u16,
+    pub mark: u16,
 }
 
 impl Header {
@@ -27,9 +70,9 @@ impl Header {
         let [c0, c1, c2, c3] = self.count.to_be_bytes();
         let [r0, r1, r2, r3] = self.release.to_be_bytes();
         let [l0, l1] = self.length.to_be_bytes();
-        let [z0, z1] = self.reserved.to_be_bytes();
+        let [m0, m1] = self.mark.to_be_bytes();
         [
-            n0, n1, n2, n3, c0, c1, c2, c3, r0, r1, r2, r3, l0, l1, z0, z1,
+            n0, n1, n2, n3, c0, c1, c2, c3, r0, r1, r2, r3, l0, l1, m0, m1,
         ]
     }
 
@@ -39,7 +82,7 @@ impl Header {
             count: u32::from_be_bytes([block[4], block[5], block[6], block[7]]),
             release: u32::from_be_bytes([block[8], block[9], block[10], block[11]]),
             length: u16::from_be_bytes([block[12], block[13]]),
-            reserved: u16::from_be_bytes([block[14], block[15]]),
+            mark: u16::from_be_bytes([block[14], block[15]]),
         }
     }
 }
@@ -72,17 +115,27 @@ impl Keys {
         })
     }
 
-    /// The block of any header, right or wrong, over a payload that is already filled up.
-    pub fn seal(&self, header: &Header, filled: &[u8; PAYLOAD]) -> Vec<u8> {
+    /// The block of any header, right or wrong, over a payload that is already filled up, with the cover that its mark selects.
+    pub fn seal(&self, header: &Header, filled: &[u8; PAYLOAD], previous: &Block) -> Vec<u8> {
+        self.seal_over(header, filled, tail(header.mark, previous))
+    }
+
+    /// The same with any bytes covered behind bytes 0 to 495.
+    pub fn seal_over(&self, header: &Header, filled: &[u8; PAYLOAD], tail: &[u8]) -> Vec<u8> {
         let mut block = header.bytes().to_vec();
         let body = cbc_encrypt(&self.encryption, self.iv(header), filled.as_chunks().0);
         block.extend_from_slice(body.as_flattened());
-        block.extend_from_slice(&check(&self.check, &block));
+        let check = self.check_of(&block, tail);
+        block.extend_from_slice(&check);
         block
     }
 
-    fn check_holds(&self, block: &[u8; BLOCK]) -> bool {
-        block[SEALED..] == check(&self.check, &block[..SEALED])
+    fn check_holds(&self, block: &[u8; BLOCK], tail: &[u8]) -> bool {
+        block[SEALED..] == self.check_of(&block[..SEALED], tail)
+    }
+
+    fn check_of(&self, sealed: &[u8], tail: &[u8]) -> Block {
+        check(&self.check, &[sealed, tail].concat())
     }
 
     fn open(&self, header: &Header, block: &[u8; BLOCK]) -> Vec<u8> {
@@ -102,15 +155,36 @@ pub fn filled(payload: &[u8]) -> Option<[u8; PAYLOAD]> {
     Some(filled)
 }
 
+/// The check of a block, or of the last of some blocks.
+pub fn check_in(blocks: &[u8]) -> Block {
+    blocks.last_chunk().copied().unwrap_or(NO_CHECK)
+}
+
+/// Which block is to be written.
+#[derive(Clone, Copy)]
+pub struct Which {
+    pub number: u32,
+    pub count: u32,
+    pub release: u32,
+    /// 1 or 2; any other is refused.
+    pub edition: u32,
+}
+
+/// The previous check is not looked at for edition 1, nor for number 0.
 pub fn write(
     encryption_key: &[u8],
     check_key: &[u8],
-    number: u32,
-    count: u32,
-    release: u32,
+    which: Which,
+    previous: &Block,
     payload: &[u8],
     output: &mut [u8],
 ) -> Result<(), Refusal> {
+    let Which {
+        number,
+        count,
+        release,
+        edition,
+    } = which;
     let keys = Keys::new(encryption_key, check_key)?;
     if !count_fits(count) {
         return Err(Refusal::CountRange);
@@ -122,15 +196,17 @@ pub fn write(
         return Err(Refusal::PayloadLength);
     }
     let filled = filled(payload).ok_or(Refusal::PayloadLength)?;
+    let edition = Edition::numbered(edition).ok_or(Refusal::Edition)?;
     let room = output.get_mut(..BLOCK).ok_or(Refusal::OutputShort)?;
     let header = Header {
         number,
         count,
         release,
         length: payload.len() as u16,
-        reserved: 0,
+        mark: edition.mark(),
     };
-    room.copy_from_slice(&keys.seal(&header, &filled));
+    let previous = if number == 0 { &NO_CHECK } else { previous };
+    room.copy_from_slice(&keys.seal(&header, &filled, previous));
     Ok(())
 }
 
@@ -139,6 +215,7 @@ pub fn seal_all(
     encryption_key: &[u8],
     check_key: &[u8],
     release: u32,
+    edition: u32,
     payload: &[u8],
 ) -> Result<Vec<u8>, Refusal> {
     let mut parts: Vec<&[u8]> = payload.chunks(PAYLOAD).collect();
@@ -149,12 +226,18 @@ pub fn seal_all(
     let mut image = Vec::new();
     for (number, part) in (0..).zip(parts) {
         let mut block = [0; BLOCK];
-        write(
-            encryption_key,
-            check_key,
+        let which = Which {
             number,
             count,
             release,
+            edition,
+        };
+        let previous = check_in(&image);
+        write(
+            encryption_key,
+            check_key,
+            which,
+            &previous,
             part,
             &mut block,
         )?;
@@ -169,6 +252,8 @@ pub struct Reader {
     keys: Option<Keys>,
     expected: u32,
     fixed: Option<Fixed>,
+    /// The check of the block accepted last, of either edition.
+    last: Block,
 }
 
 /// What the first accepted block settles for those after it.
@@ -176,6 +261,7 @@ pub struct Reader {
 struct Fixed {
     count: u32,
     release: u32,
+    edition: Edition,
 }
 
 /// The answer of a turn that was not refused as a whole.
@@ -221,11 +307,23 @@ impl Reader {
             keys,
             expected: 0,
             fixed: None,
+            last: NO_CHECK,
         })
     }
 
     pub fn expected(&self) -> u32 {
         self.expected
+    }
+
+    /// The check of the block accepted last, zeros before the first.
+    pub fn last(&self) -> Block {
+        self.last
+    }
+
+    /// The edition that the first accepted block has fixed.
+    #[cfg(test)]
+    pub fn edition(&self) -> Option<Edition> {
+        Some(self.fixed?.edition)
     }
 
     pub fn complete(&self) -> Result<(), Refusal> {
@@ -275,47 +373,61 @@ impl Reader {
             return Err(Stop::plain(Refusal::AfterLast));
         }
         let header = Header::read(block);
+        let tail = tail(header.mark, &self.last);
         let keys = match &self.keys {
-            Some(keys) if keys.check_holds(block) => keys,
+            Some(keys) if keys.check_holds(block, tail) => keys,
             _ => return Err(Stop::plain(Refusal::CheckWrong)),
         };
-        self.judge(&header)?;
+        let fixed = self.judge(&header)?;
         let length = usize::from(header.length);
         let payload = keys.open(&header, block);
         if payload.iter().skip(length).any(|byte| *byte != 0) {
             return Err(Stop::plain(Refusal::FillNotZero));
         }
         self.expected += 1;
-        self.fixed = Some(Fixed {
-            count: header.count,
-            release: header.release,
-        });
+        self.fixed = Some(fixed);
+        self.last = check_in(block);
         Ok(Accepted { payload, length })
     }
 
-    fn judge(&self, header: &Header) -> Result<(), Stop> {
+    /// What is fixed once the block is accepted, where nothing but its fill can refuse it any more.
+    fn judge(&self, header: &Header) -> Result<Fixed, Stop> {
         let Header {
             number,
             count,
             release,
             length,
-            reserved,
+            mark,
         } = *header;
-        let fixed = self.fixed.unwrap_or(Fixed { count, release });
+        let fixed = self.fixed;
         if !count_fits(count) {
             Err(Stop::holding(Refusal::CountRange, count))
         } else if number != self.expected {
             Err(Stop::holding(Refusal::BlockNumber, number))
-        } else if count != fixed.count {
+        } else if fixed.is_some_and(|fixed| fixed.count != count) {
             Err(Stop::holding(Refusal::CountDiffers, count))
-        } else if release != fixed.release {
+        } else if fixed.is_some_and(|fixed| fixed.release != release) {
             Err(Stop::holding(Refusal::ReleaseDiffers, release))
         } else if !length_fits(number, count, usize::from(length)) {
             Err(Stop::holding(Refusal::PayloadLength, length))
-        } else if reserved != 0 {
-            Err(Stop::holding(Refusal::ReservedNotZero, reserved))
         } else {
-            Ok(())
+            let edition = self
+                .edition_of(mark)
+                .ok_or(Stop::holding(Refusal::Edition, mark))?;
+            Ok(Fixed {
+                count,
+                release,
+                edition,
+            })
+        }
+    }
+
+    /// The edition that a mark stands for, unless another one is fixed.
+    fn edition_of(&self, mark: u16) -> Option<Edition> {
+        let found = Edition::marked(mark)?;
+        match self.fixed {
+            Some(fixed) if fixed.edition != found => None,
+            _ => Some(found),
         }
     }
 }

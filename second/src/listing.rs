@@ -46,32 +46,14 @@ fn offer(reader: &mut Reader, lent: &[u8]) -> (u8, usize) {
 #[cfg(test)]
 mod tests {
     use super::*;
-    use crate::image::write;
+    use crate::image::seal_all;
 
     const KEYS: [u8; 32] = [3; 32];
 
-    fn image(blocks: u32) -> Vec<u8> {
-        let mut image = KEYS.to_vec();
-        for number in 0..blocks {
-            let mut block = [0; BLOCK];
-            let payload = if number + 1 < blocks {
-                &[1; 480][..]
-            } else {
-                &[1; 5]
-            };
-            write(
-                &KEYS[..16],
-                &KEYS[16..],
-                number,
-                blocks,
-                1,
-                payload,
-                &mut block,
-            )
-            .unwrap();
-            image.extend_from_slice(&block);
-        }
-        image
+    fn image(blocks: usize, edition: u32) -> Vec<u8> {
+        let payload = vec![1; (blocks - 1) * PAYLOAD + 5];
+        let image = seal_all(&KEYS[..16], &KEYS[16..], 1, edition, &payload).unwrap();
+        [&KEYS[..], &image].concat()
     }
 
     #[test]
@@ -93,12 +75,13 @@ mod tests {
     #[test]
     fn a_whole_image() {
         let listed = "block answer length\n0 0 480\n1 0 480\n2 0 5\nend 0 3\n";
-        assert_eq!(list(&image(3)), listed);
+        assert_eq!(list(&image(3, 1)), listed);
+        assert_eq!(list(&image(3, 2)), listed);
     }
 
     #[test]
     fn a_cut_image_and_one_with_more_behind() {
-        let image = image(2);
+        let image = image(2, 2);
         assert_eq!(
             list(&image[..544]),
             "block answer length\n0 0 480\nend 17 1\n"

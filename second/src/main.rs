@@ -19,7 +19,7 @@ use std::path::Path;
 use std::process::ExitCode;
 use std::str::FromStr;
 
-const USAGE: &str = "usage: second console | second list | second seal KEYS RELEASE \
+const USAGE: &str = "usage: second console | second list | second seal KEYS RELEASE [EDITION] \
                      | second random SEED COUNT [CALL,CALL...] | second listings SEED DIR | second turns SEED DIR";
 
 fn main() -> ExitCode {
@@ -42,7 +42,10 @@ fn run(words: &[&str]) -> Result<(), String> {
     let done = match words {
         ["console"] => console::serve(&mut io::stdin().lock(), &mut io::stdout().lock()),
         ["list"] => list(),
-        ["seal", keys, release] => seal(Path::new(keys), number(release)?)?,
+        ["seal", keys, release] => seal(Path::new(keys), number(release)?, 1)?,
+        ["seal", keys, release, edition] => {
+            seal(Path::new(keys), number(release)?, number(edition)?)?
+        }
         ["random", seed, count] => random(number(seed)?, number(count)?, None)?,
         ["random", seed, count, calls] => random(number(seed)?, number(count)?, Some(calls))?,
         ["listings", seed, dir] => listings(number(seed)?, Path::new(dir)),
@@ -59,13 +62,13 @@ fn list() -> io::Result<()> {
 }
 
 /// Seals standard input under two keys of equal size. The outer error is one of reading and sealing, the inner one of the writing.
-fn seal(keys: &Path, release: u32) -> Result<io::Result<()>, String> {
+fn seal(keys: &Path, release: u32, edition: u32) -> Result<io::Result<()>, String> {
     let keys = fs::read(keys).map_err(|error| error.to_string())?;
     let mut payload = Vec::new();
     let read = io::stdin().lock().read_to_end(&mut payload);
     read.map_err(|error| error.to_string())?;
     let (encryption_key, check_key) = keys.split_at(keys.len() / 2);
-    let image = image::seal_all(encryption_key, check_key, release, &payload)
+    let image = image::seal_all(encryption_key, check_key, release, edition, &payload)
         .map_err(|refusal| format!("refusal {}", refusal.number()))?;
     Ok(io::stdout().write_all(&image))
 }

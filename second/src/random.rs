@@ -91,6 +91,7 @@ impl Iterator for Lines {
             self.draw.plan = plan;
         }
         self.draw.expected = self.console.reader().expected();
+        self.draw.last = self.console.reader().last();
         Some(line)
     }
 }
@@ -105,6 +106,7 @@ fn call_named(name: &str) -> Result<Call, String> {
 #[cfg(test)]
 mod tests {
     use super::*;
+    use crate::image::Edition;
 
     fn drawn(seed: u64, names: Option<&str>) -> Vec<Vec<u8>> {
         Lines::new(seed, names).unwrap().take(2000).collect()
@@ -143,12 +145,49 @@ mod tests {
                 .any(|answer| answer.split(' ').nth(4) == Some(&reason));
             assert!(met, "reason {reason}");
         }
+        for whole in ["13 0", "13 2"] {
+            let held = answers
+                .iter()
+                .any(|answer| answer.contains(&format!(" {whole} ")));
+            assert!(held, "{whole}");
+        }
         for whole in ["0", "1", "17", "4 0 0 ", "5 0 0 ", "6 0 0 ", "0 3 "] {
             assert!(
                 answers.iter().any(|answer| answer.starts_with(whole)),
                 "{whole}"
             );
         }
+    }
+
+    #[test]
+    fn most_blocks_are_written_in_both_editions_and_every_refusal_of_them_is_met() {
+        let mut console = Console::default();
+        let lines = drawn(5, Some("write"));
+        let answers: Vec<String> = lines.iter().map(|line| console.answer(line)).collect();
+        for number in ["1", "7", "8", "12", "13", "4"] {
+            let given = |answer: &String| answer.split(' ').next() == Some(number);
+            assert!(answers.iter().any(given), "{number}");
+        }
+        for mark in ["0000", "0002"] {
+            let given = |answer: &&String| answer.starts_with("0 ") && &answer[30..34] == mark;
+            let count = answers.iter().filter(given).count();
+            assert!(count > 200, "{mark}: {count} of 2000");
+        }
+    }
+
+    #[test]
+    fn blocks_of_both_editions_are_accepted_behind_a_first_one() {
+        let mut lines = Lines::new(6, Some("read-start,read-turn")).unwrap();
+        let mut met = [0; 2];
+        for _ in 0..2000 {
+            let before = lines.console.reader().expected();
+            lines.next();
+            let reader = lines.console.reader();
+            if before > 0 && reader.expected() > before {
+                met[usize::from(reader.edition() == Some(Edition::Second))] += 1;
+            }
+        }
+        assert!(met.iter().all(|count| *count > 100), "{met:?} of 2000");
     }
 
     #[test]

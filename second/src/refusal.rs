@@ -13,7 +13,7 @@ pub enum Refusal {
     CountDiffers = 9,
     ReleaseDiffers = 10,
     PayloadLength = 12,
-    ReservedNotZero = 13,
+    Edition = 13,
     CheckWrong = 14,
     FillNotZero = 15,
     AfterLast = 16,

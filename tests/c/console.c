@@ -10,12 +10,11 @@
 #include "lent.h"
 #include "line.h"
 
-enum { LONGEST = 65536, MOST_WORDS = 8 };
+enum { LONGEST = 65536, MOST_WORDS = 10 };
 
-// These have no bytes between their fields, so they can be compared whole, a reader but for the bytes behind its last field.
-enum { READER_BYTES = 2 * (60 * 4 + 8) + 3 * 4 };
+// These have no bytes between their fields or behind the last, so they can be compared whole.
 _Static_assert(sizeof(dock_record) == 60 * 4 + 8 + 16 + 16 + 8, "the layout of a record");
-_Static_assert(offsetof(dock_reader, progress.release) + 4 == READER_BYTES, "the layout of a reader");
+_Static_assert(sizeof(dock_reader) == 2 * (60 * 4 + 8) + 4 * 4 + 16, "the layout of a reader");
 
 static const dock_record zero_record;
 static const dock_reader zero_reader;
@@ -180,11 +179,13 @@ static bool check_close(const form *f, const word *w) {
 
 static bool write_block(const form *f, const word *w) {
     (void)f;
-    uint32_t number, count, release;
-    const lent *ekey = input(w[0]), *ckey = input(w[1]), *payload = input(w[5]), *out = output(w[6]);
+    uint32_t number, count, release, edition;
+    dock_block previous;
+    const lent *ekey = input(w[0]), *ckey = input(w[1]), *payload = input(w[7]), *out = output(w[8]);
     if (!ekey || !ckey || !payload || !out) return false;
     if (!number32(w[2], &number) || !number32(w[3], &count) || !number32(w[4], &release)) return false;
-    put_number(dock_write(ekey->bytes, ekey->length, ckey->bytes, ckey->length, number, count, release,
+    if (!number32(w[5], &edition) || !fixed(w[6], previous.bytes, sizeof previous.bytes)) return false;
+    put_number(dock_write(ekey->bytes, ekey->length, ckey->bytes, ckey->length, number, count, release, edition, previous,
                           payload->bytes, payload->length, out->bytes, out->length));
     put_bytes(out->bytes, out->length);
     return true;
@@ -196,20 +197,20 @@ static bool read_start(const form *f, const word *w) {
     if (!ekey || !ckey) return false;
     dock_read_start_answer answer = dock_read_start(ekey->bytes, ekey->length, ckey->bytes, ckey->length);
     reader = answer.reader;
-    expect(answer.number == 0 || memcmp(&reader, &zero_reader, READER_BYTES) == 0, "the reader of a refused start");
+    expect(answer.number == 0 || memcmp(&reader, &zero_reader, sizeof reader) == 0, "the reader of a refused start");
     put_number(answer.number);
     return true;
 }
 
 static bool holds_value(uint32_t reason) {
-    return reason >= DOCK_COUNT_RANGE && reason <= DOCK_RESERVED_NOT_ZERO;
+    return reason >= DOCK_COUNT_RANGE && reason <= DOCK_EDITION_WRONG;
 }
 
 // What dock.h says of a turn's answer and the lines do not show.
 static void look_at(const dock_turn_answer *turn, const dock_reader *before) {
     if (turn->number != 0) {
         expect(turn->reason == 0 && turn->accepted == 0 && turn->bytes == 0, "counts of a turn that was refused as a whole");
-        expect(memcmp(&turn->reader, before, READER_BYTES) == 0, "the reader of a turn that was refused as a whole");
+        expect(memcmp(&turn->reader, before, sizeof *before) == 0, "the reader of a turn that was refused as a whole");
     }
     expect(turn->reason != 0 || turn->place == 0, "a place where no block was refused");
     expect(holds_value(turn->reason) || turn->value == 0, "a value where the reason holds none");
@@ -274,7 +275,7 @@ static const form forms[] = {
     {"check-start", 1, check_start, {NULL}},
     {"check-feed", 1, check_feed, {NULL}},
     {"check-close", 0, check_close, {NULL}},
-    {"write", 7, write_block, {NULL}},
+    {"write", 9, write_block, {NULL}},
     {"read-start", 2, read_start, {NULL}},
     {"read-turn", 3, read_turn, {NULL}},
     {"read-complete", 0, read_complete, {NULL}},

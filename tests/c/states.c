@@ -60,8 +60,10 @@ static void one_record(void) {
     expect(usable(fed.rounds) || memcmp(answer.check, zeros, 16) == 0, "a check without rounds is not zeros");
 }
 
+// What a block says in its first 16 bytes, and the check that it is sealed on where it says 2 in bytes 14 and 15.
 typedef struct {
-    uint32_t number, count, release, length, reserved;
+    uint32_t number, count, release, length, mark;
+    uint8_t on[16];
 } header;
 
 static void put(uint8_t *at, uint32_t value, int bytes) {
@@ -70,18 +72,20 @@ static void put(uint8_t *at, uint32_t value, int bytes) {
 
 // A block under any header, right or wrong, as the format says; dock_write seals right ones only.
 static void seal(const header *h, uint8_t *block) {
-    uint8_t payload[480] = {0};
+    uint8_t payload[480] = {0}, covered[512];
     dock_block first;
     memset(payload, 7, h->length < 480 ? h->length : 480);
     put(block, h->number, 4);
     put(block + 4, h->count, 4);
     put(block + 8, h->release, 4);
     put(block + 12, h->length, 2);
-    put(block + 14, h->reserved, 2);
+    put(block + 14, h->mark, 2);
     memcpy(first.bytes, block, 16);
     dock_block_answer iv = dock_encrypt(ekey, sizeof ekey, first);
     expect(dock_cbc_encrypt(ekey, sizeof ekey, iv.block, 16, payload, 480, block + 16, 480).number == 0, "sealing by hand");
-    memcpy(block + 496, dock_check(ckey, sizeof ckey, block, 496).check, 16);
+    memcpy(covered, block, 496);
+    memcpy(covered + 496, h->on, 16);
+    memcpy(block + 496, dock_check(ckey, sizeof ckey, covered, h->mark == 2 ? 512 : 496).check, 16);
 }
 
 static bool is_complete(dock_progress progress) {
@@ -93,7 +97,7 @@ static bool is_closed(dock_progress progress) {
 }
 
 static bool same_reader(const dock_reader *a, const dock_reader *b) {
-    return memcmp(a, b, offsetof(dock_reader, progress)) == 0 && memcmp(&a->progress, &b->progress, sizeof a->progress) == 0;
+    return memcmp(a, b, sizeof *a) == 0;
 }
 
 // A reader with a schedule that no key made accepts nothing.
@@ -125,25 +129,82 @@ typedef struct {
 
 // Readers with keys that have come where no reading comes. Where next is not 0 and not below the count, no block may follow.
 static const odd_case cases[] = {
-    {{7, 5, 9}, {7, 5, 9, 480, 0}, 16, 0},
-    {{7, 5, 9}, {6, 5, 9, 480, 0}, 16, 0},
-    {{7, 5, 9}, {7, 8, 9, 480, 0}, 16, 0},
-    {{UINT32_MAX, 0, 0}, {UINT32_MAX, 65535, 9, 480, 0}, 16, 0},
-    {{65535, 1, 1}, {65535, 65535, 9, 480, 0}, 16, 0},
-    {{65536, 65536, 9}, {65536, 65536, 9, 480, 0}, 16, 0},
-    {{5, 5, 9}, {5, 5, 9, 480, 0}, 16, 0},
-    {{1, 0, 0}, {0, 1, 0, 480, 0}, 16, 0},
-    {{0, 0, 0}, {1, 2, 9, 480, 0}, 8, 1},
-    {{0, 77, 78}, {0, 0, 9, 480, 0}, 7, 0},
-    {{2, 65536, 9}, {2, 65536, 9, 480, 0}, 7, 65536},
-    {{UINT32_MAX - 1, UINT32_MAX, 9}, {UINT32_MAX - 1, 65535, 9, 480, 0}, 9, 65535},
-    {{4, 5, 9}, {4, 6, 9, 480, 0}, 9, 6},
-    {{4, 5, 9}, {4, 5, 8, 480, 0}, 10, 8},
-    {{0, 1, 9}, {0, 1, 8, 0, 0}, 0, 0},
-    {{0, 77, 78}, {0, 10, 9, 480, 0}, 0, 0},
-    {{4, 5, 9}, {4, 5, 9, 480, 0}, 0, 0},
-    {{65534, 65535, 9}, {65534, 65535, 9, 480, 0}, 0, 0},
+    {{7, 5, 9, 1, {0}}, {7, 5, 9, 480, 0, {0}}, 16, 0},
+    {{7, 5, 9, 1, {0}}, {6, 5, 9, 480, 0, {0}}, 16, 0},
+    {{7, 5, 9, 1, {0}}, {7, 8, 9, 480, 0, {0}}, 16, 0},
+    {{UINT32_MAX, 0, 0, 1, {0}}, {UINT32_MAX, 65535, 9, 480, 0, {0}}, 16, 0},
+    {{65535, 1, 1, 2, {0}}, {65535, 65535, 9, 480, 2, {0}}, 16, 0},
+    {{65536, 65536, 9, 1, {0}}, {65536, 65536, 9, 480, 0, {0}}, 16, 0},
+    {{5, 5, 9, 2, {5}}, {5, 5, 9, 480, 2, {6}}, 16, 0},
+    {{1, 0, 0, 3, {0}}, {0, 1, 0, 480, 0, {0}}, 16, 0},
+    {{0, 0, 0, 0, {0}}, {1, 2, 9, 480, 0, {0}}, 8, 1},
+    {{0, 77, 78, 1, {0}}, {0, 0, 9, 480, 0, {0}}, 7, 0},
+    {{2, 65536, 9, 1, {0}}, {2, 65536, 9, 480, 0, {0}}, 7, 65536},
+    {{UINT32_MAX - 1, UINT32_MAX, 9, 1, {0}}, {UINT32_MAX - 1, 65535, 9, 480, 0, {0}}, 9, 65535},
+    {{4, 5, 9, 1, {0}}, {4, 6, 9, 480, 0, {0}}, 9, 6},
+    {{4, 5, 9, 1, {0}}, {4, 5, 8, 480, 0, {0}}, 10, 8},
+    {{0, 1, 9, 1, {0}}, {0, 1, 8, 0, 0, {0}}, 0, 0},
+    {{0, 77, 78, 1, {0}}, {0, 10, 9, 480, 0, {0}}, 0, 0},
+    {{4, 5, 9, 1, {0}}, {4, 5, 9, 480, 0, {0}}, 0, 0},
+    {{65534, 65535, 9, 1, {0}}, {65534, 65535, 9, 480, 0, {0}}, 0, 0},
+    // The edition is asked where next is not 0 alone, and the cover of edition 2 has the last check, whatever number is read.
+    {{0, 0, 0, 0, {0}}, {0, 2, 9, 480, 2, {0}}, 0, 0},
+    {{0, 0, 0, 77, {0}}, {0, 2, 9, 480, 2, {0}}, 0, 0},
+    {{0, 77, 78, 2, {5}}, {0, 10, 9, 480, 0, {0}}, 0, 0},
+    {{0, 77, 78, 1, {5}}, {0, 10, 9, 480, 2, {5}}, 0, 0},
+    {{0, 77, 78, 1, {5}}, {0, 10, 9, 480, 2, {0}}, 14, 0},
+    {{0, 0, 0, 0, {0}}, {3, 5, 9, 480, 2, {0}}, 8, 3},
+    {{0, 0, 0, 0, {0}}, {3, 5, 9, 480, 2, {6}}, 14, 0},
+    {{4, 5, 9, 2, {5}}, {4, 5, 9, 480, 2, {5}}, 0, 0},
+    {{4, 5, 9, 2, {5}}, {4, 5, 9, 480, 2, {6}}, 14, 0},
+    {{4, 5, 9, 2, {5}}, {3, 5, 9, 480, 2, {6}}, 14, 0},
+    {{4, 5, 9, 2, {5}}, {3, 5, 9, 480, 2, {5}}, 8, 3},
+    {{4, 5, 9, 2, {5}}, {4, 5, 9, 480, 0, {0}}, 13, 0},
+    {{4, 5, 9, 1, {5}}, {4, 5, 9, 480, 2, {5}}, 13, 2},
+    {{4, 5, 9, 1, {5}}, {4, 5, 9, 480, 2, {6}}, 14, 0},
+    // No block is of an edition that is none.
+    {{4, 5, 9, 0, {5}}, {4, 5, 9, 480, 0, {0}}, 13, 0},
+    {{4, 5, 9, 0, {5}}, {4, 5, 9, 480, 2, {5}}, 13, 2},
+    {{4, 5, 9, 3, {5}}, {4, 5, 9, 480, 0, {0}}, 13, 0},
+    {{4, 5, 9, 3, {5}}, {4, 5, 9, 480, 2, {5}}, 13, 2},
+    {{4, 5, 9, 3, {5}}, {4, 5, 9, 480, 3, {5}}, 13, 3},
+    {{4, 5, 9, 65538, {5}}, {4, 5, 9, 480, 2, {5}}, 13, 2},
+    {{4, 5, 9, UINT32_MAX, {5}}, {4, 5, 9, 480, 65535, {5}}, 13, 65535},
+    {{0, 0, 0, 0, {0}}, {0, 2, 9, 480, 1, {0}}, 13, 1},
+    {{0, 0, 0, 0, {0}}, {0, 2, 9, 480, 3, {0}}, 13, 3},
+    {{0, 0, 0, 0, {0}}, {0, 2, 9, 480, 512, {0}}, 13, 512},
 };
+
+// The rules once more, in their order, for a block whose check and fill are right: the first that applies, and the value found.
+static bool length_fits(const header *h) {
+    uint32_t least = h->count == 1 ? 0 : 1;
+    return h->number + 1 < h->count ? h->length == 480 : h->length >= least && h->length <= 480;
+}
+
+static bool edition_fits(const dock_progress *p, uint32_t mark) {
+    if (p->next == 0) return mark == 0 || mark == 2;
+    return (p->edition == 1 && mark == 0) || (p->edition == 2 && mark == 2);
+}
+
+static uint32_t judged(const dock_progress *p, const header *h, uint32_t *value) {
+    *value = 0;
+    if (is_closed(*p)) return 16;
+    if (h->mark == 2 && memcmp(h->on, p->last, 16) != 0) return 14;
+    *value = h->count;
+    if (h->count < 1 || h->count > 65535) return 7;
+    *value = h->number;
+    if (h->number != p->next) return 8;
+    *value = h->count;
+    if (p->next != 0 && h->count != p->count) return 9;
+    *value = h->release;
+    if (p->next != 0 && h->release != p->release) return 10;
+    *value = h->length;
+    if (!length_fits(h)) return 12;
+    *value = h->mark;
+    if (!edition_fits(p, h->mark)) return 13;
+    *value = 0;
+    return 0;
+}
 
 static void one_case(const odd_case *c) {
     uint8_t block[512], output[480];
@@ -153,16 +214,47 @@ static void one_case(const odd_case *c) {
     dock_turn_answer turn = dock_read_turn(reader, block, sizeof block, 1, output, sizeof output);
     expect(turn.number == 0 && turn.reason == c->reason && turn.value == c->value, "the answer of a reader that has come elsewhere");
     expect(turn.accepted == (c->reason == 0), "whether such a reader accepts");
-    if (c->reason == 0) reader.progress = (dock_progress){c->progress.next + 1, c->block.count, c->block.release};
+    if (c->reason == 0) {
+        reader.progress = (dock_progress){c->progress.next + 1, c->block.count, c->block.release, c->block.mark == 2 ? 2 : 1, {0}};
+        memcpy(reader.progress.last, block + 496, 16);
+    }
     expect(same_reader(&turn.reader, &reader), "where such a reader stands");
+}
+
+static void one_by_hand(const odd_case *c) {
+    uint32_t value, reason = judged(&c->progress, &c->block, &value);
+    expect(reason == c->reason && value == c->value, "the rules once more");
+    one_case(c);
+}
+
+// Mostly the one, and sometimes any.
+static uint32_t mostly(uint32_t usual) {
+    return drawn() % 8 ? usual : (uint32_t)some_number();
+}
+
+// Any edition and any last check, and a block that fits the reader in most of what it says.
+static void one_drawn(void) {
+    odd_case c;
+    dock_progress *p = &c.progress;
+    header *h = &c.block;
+    *p = (dock_progress){.next = (uint32_t)drawn() % 3, .count = mostly(3), .release = mostly(9), .edition = mostly(drawn() % 4)};
+    if (drawn() % 4) fill(p->last, sizeof p->last);
+    *h = (header){.number = mostly(p->next), .count = mostly(p->count), .release = mostly(p->release)};
+    h->length = mostly(480) % 65536;
+    h->mark = mostly(drawn() % 2 ? 2 : 0) % 65536;
+    memcpy(h->on, p->last, sizeof h->on);
+    if (drawn() % 4 == 0) h->on[drawn() % 16] ^= (uint8_t)(1 << drawn() % 8);
+    c.reason = judged(p, h, &c.value);
+    one_case(&c);
 }
 
 int main(void) {
     uint8_t block[512];
-    seal(&(header){0, 1, 2, 480, 0}, block);
+    seal(&(header){0, 1, 2, 480, 0, {0}}, block);
     for (int i = 0; i < TRIALS; i++) one_record();
     for (int i = 0; i < TRIALS; i++) one_reader(block);
-    for (size_t i = 0; i < sizeof cases / sizeof *cases; i++) one_case(&cases[i]);
+    for (size_t i = 0; i < sizeof cases / sizeof *cases; i++) one_by_hand(&cases[i]);
+    for (int i = 0; i < TRIALS; i++) one_drawn();
     printf("states: %ld comparisons hold\n", compared);
     return 0;
 }

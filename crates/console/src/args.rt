@@ -15,8 +15,8 @@ ghost use Rattle.io.specs.Counts.{Counts};
 // output go to the front of its own memory, since a call writes there while it reads the inputs: numbers[k] counts them.
 pub struct Args {
     pub ok: bool,
-    pub ends: [usize; 8],
-    pub numbers: [u64; 8],
+    pub ends: [usize; 10],
+    pub numbers: [u64; 10],
 }
 
 // What one word gives.
@@ -27,13 +27,13 @@ pub struct Taken {
 }
 
 // The words of a line that has the form of a row of the table of calls, or `ok` false.
-pub fn take(line: &[u8], row: &[u8; 24], ins: &mut [u8], outs: &mut [u8]) -> Args {
-    let mut ok = lines::count(line) == lines::find(lines::part(row, 16, 24), 0, 32);
-    let mut ends = [0usize; 8];
-    let mut numbers = [0u64; 8];
+pub fn take(line: &[u8], row: &[u8; 26], ins: &mut [u8], outs: &mut [u8]) -> Args {
+    let mut ok = lines::count(line) == lines::find(lines::part(row, 16, 26), 0, 32);
+    let mut ends = [0usize; 10];
+    let mut numbers = [0u64; 10];
     let mut at: usize = 0;
     let mut k: usize = 1;
-    while k < 8 {
+    while k < 10 {
         let t = read_word(row[16 + k], lines::word(line, k), ins, outs, at);
         if !t.ok {
             ok = false;
@@ -124,7 +124,7 @@ pub fn bytes(ins: &[u8], a: Args, k: usize) -> &[u8] {
     if k == 0 {
         return &ins[..0];
     }
-    if 8 <= k {
+    if 10 <= k {
         return &ins[..0];
     }
     lines::part(ins, ends[k - 1], ends[k])
@@ -135,7 +135,7 @@ pub fn out_len(a: Args, k: usize, outs: &[u8]) -> usize
     ensures { λ r. ⌜ Counts r (now (outs .entry)) ⌝ }
 {
     let numbers = a.numbers;
-    if 8 <= k {
+    if 10 <= k {
         return 0;
     }
     let n = numbers[k] as usize;
@@ -145,7 +145,7 @@ pub fn out_len(a: Args, k: usize, outs: &[u8]) -> usize
 // The number of word k where the form asks for one of 32 bits: no other has passed.
 pub fn number(a: Args, k: usize) -> u32 {
     let numbers = a.numbers;
-    if 8 <= k {
+    if 10 <= k {
         return 0;
     }
     (numbers[k] % 4294967296) as u32
@@ -154,7 +154,7 @@ pub fn number(a: Args, k: usize) -> u32 {
 // The number of word k where the form asks for one of 64 bits.
 pub fn count(a: Args, k: usize) -> usize {
     let numbers = a.numbers;
-    if 8 <= k {
+    if 10 <= k {
         return 0;
     }
     numbers[k] as usize

@@ -14,28 +14,28 @@ use sp800_38a::Operation;
 use wrapped::WrapCall;
 
 // A row has the name of a call, and from its place 16 on the form of its line: the letters are in args.rt.
-const ROWS: [[u8; 24]; 21] = [
-    *b"product         .11     ",
-    *b"schedule        .x      ",
-    *b"encrypt         .xb     ",
-    *b"decrypt         .xb     ",
-    *b"ecb-encrypt     .xxxo   ",
-    *b"ecb-decrypt     .xxxo   ",
-    *b"cbc-encrypt     .xxxo   ",
-    *b"cbc-decrypt     .xxxo   ",
-    *b"cfb-encrypt     .xxxo   ",
-    *b"cfb-decrypt     .xxxo   ",
-    *b"ofb             .xxxo   ",
-    *b"check           .xx     ",
-    *b"check-start     .x      ",
-    *b"check-feed      .x      ",
-    *b"check-close     .       ",
-    *b"write           .xxnnnxo",
-    *b"read-start      .xx     ",
-    *b"read-turn       .wxo    ",
-    *b"read-complete   .       ",
-    *b"wrap            .xxo    ",
-    *b"unwrap          .xxo    ",
+const ROWS: [[u8; 26]; 21] = [
+    *b"product         .11       ",
+    *b"schedule        .x        ",
+    *b"encrypt         .xb       ",
+    *b"decrypt         .xb       ",
+    *b"ecb-encrypt     .xxxo     ",
+    *b"ecb-decrypt     .xxxo     ",
+    *b"cbc-encrypt     .xxxo     ",
+    *b"cbc-decrypt     .xxxo     ",
+    *b"cfb-encrypt     .xxxo     ",
+    *b"cfb-decrypt     .xxxo     ",
+    *b"ofb             .xxxo     ",
+    *b"check           .xx       ",
+    *b"check-start     .x        ",
+    *b"check-feed      .x        ",
+    *b"check-close     .         ",
+    *b"write           .xxnnnnbxo",
+    *b"read-start      .xx       ",
+    *b"read-turn       .wxo      ",
+    *b"read-complete   .         ",
+    *b"wrap            .xxo      ",
+    *b"unwrap          .xxo      ",
 ];
 
 pub enum Call {
@@ -77,8 +77,8 @@ fn call_at(k: usize) -> Call {
 }
 
 // No line has the form of a row past the last, since that asks for no word at all.
-fn row(k: usize) -> [u8; 24] {
-    if k < 21 { ROWS[k] } else { [32; 24] }
+fn row(k: usize) -> [u8; 26] {
+    if k < 21 { ROWS[k] } else { [32; 26] }
 }
 
 // The row that has a word for its name, or 21.
@@ -93,7 +93,7 @@ fn row_of(w: &[u8]) -> usize {
     k
 }
 
-fn has_name(row: [u8; 24], w: &[u8]) -> bool {
+fn has_name(row: [u8; 26], w: &[u8]) -> bool {
     check::same(w, lines::part(&row, 0, lines::find(&row, 0, 32)))
 }
 

@@ -30,6 +30,8 @@ impl Held {
                     next: 0,
                     count: 0,
                     release: 0,
+                    edition: 0,
+                    last: [0u8; 16],
                 },
             },
         }

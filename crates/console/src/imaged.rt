@@ -1,10 +1,11 @@
-// The lines of images: `write EKEY CKEY NUMBER COUNT RELEASE PAYLOAD OUT`, `read-start EKEY CKEY`,
+// The lines of images: `write EKEY CKEY NUMBER COUNT RELEASE EDITION PREVIOUS PAYLOAD OUT`, `read-start EKEY CKEY`,
 // `read-turn ASKED BLOCKS OUT` and `read-complete`.
 use crate::args;
 use crate::held::Held;
 use crate::print;
 use crate::stopped;
 use args::Args;
+use image::Numbers;
 use image::Turn;
 
 pub enum ImageCall {
@@ -32,17 +33,25 @@ pub fn answer(
 }
 
 fn write(ins: &[u8], a: Args, outs: &mut [u8], text: &mut [u8], at: usize) -> usize {
-    let n = args::out_len(a, 7, outs);
+    let n = args::out_len(a, 9, outs);
     let r = image::write(
         args::bytes(ins, a, 1),
         args::bytes(ins, a, 2),
-        args::number(a, 3),
-        args::number(a, 4),
-        args::number(a, 5),
-        args::bytes(ins, a, 6),
+        numbers(a),
+        args::block(ins, a, 7),
+        args::bytes(ins, a, 8),
         &mut outs[..n],
     );
     print::number_bytes(r.number() as u64, lines::part(outs, 0, n), text, at)
+}
+
+fn numbers(a: Args) -> Numbers {
+    Numbers {
+        number: args::number(a, 3),
+        count: args::number(a, 4),
+        release: args::number(a, 5),
+        edition: args::number(a, 6),
+    }
 }
 
 fn start(held: Held, ins: &[u8], a: Args, text: &mut [u8], at: usize) -> Held {

@@ -12,6 +12,7 @@ use Rattle.cmac.specs.declared.Checked.{Checked}
 use Rattle.cmac.specs.declared.Started.{Started}
 use Rattle.header.specs.Rules.{reasonNumber, reasonValue}
 use Rattle.turns.specs.Turn.{stopNumber}
+use Rattle.image.specs.declared.Numbers.{Numbers}
 use Rattle.image.specs.declared.ReadStarted.{ReadStarted}
 use Rattle.turns.specs.declared.Stop.{Stop}
 use Rattle.turns.specs.declared.Stop.the-variants.{End, Asked, Lent, Room, At}
@@ -52,6 +53,11 @@ startAnswer s = record { number = keyNumber (s .answer); «record» = s .«recor
 -- closing refuses nothing
 abbrev pub closeAnswer : List ℕ → CheckAnswer
 closeAnswer c = record { number = 0; check = c }
+
+-- ---- a block to be written
+
+abbrev pub numbers : (number count release edition : ℕ) → Numbers
+numbers number count release edition = record { number = number; count = count; release = release; edition = edition }
 
 -- ---- a reader, and a turn
 

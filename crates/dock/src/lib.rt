@@ -5,6 +5,7 @@ mod numbers;
 use crate::numbers::how_stopped;
 use cipher::Ciphered;
 use cmac::Record;
+use image::Numbers;
 use image::Reader;
 use image::Turn;
 use schedule::KeySchedule;
@@ -19,7 +20,7 @@ ghost use Rattle.modes.specs.Calls.{modeNumber, modeAnswer};
 ghost use Rattle.cmac.specs.Calls.{checkOf, startOf, fedWith, closeOf};
 ghost use Rattle.image.specs.Calls as image;
 ghost use Rattle.wrap.specs.Calls.{wrapNumber, wrapAnswer, wrapOutput, unwrapAnswer, unwrapOutput};
-ghost use Rattle.dock.specs.Answers.{scheduleAnswer, blockAnswer, chainAnswer, modeApplied, afterMode, checkAnswer, startAnswer, closeAnswer, readStartAnswer, turnAnswer};
+ghost use Rattle.dock.specs.Answers.{scheduleAnswer, blockAnswer, chainAnswer, modeApplied, afterMode, checkAnswer, startAnswer, closeAnswer, readStartAnswer, turnAnswer, numbers};
 
 // Sixteen bytes by value: C passes no array so.
 #[repr(C)]
@@ -243,13 +244,22 @@ pub extern "C" fn dock_write(
     number: u32,
     count: u32,
     release: u32,
+    edition: u32,
+    previous: Block,
     payload: &[u8],
     output: &mut [u8],
 ) -> u32
-    ensures answer { λ r. ⌜ r ≡ image.writeNumber (image.writeAnswer (now (ekey .entry)) (now (ckey .entry)) number count (now (payload .entry)) (now (output .entry))) ⌝ }
-    ensures written { λ _. ⌜ now (output .exit) ≡ image.writeOutput (image.writeAnswer (now (ekey .entry)) (now (ckey .entry)) number count (now (payload .entry)) (now (output .entry))) (now (ekey .entry)) (now (ckey .entry)) number count release (now (payload .entry)) (now (output .entry)) ⌝ }
+    ensures answer { λ r. ⌜ r ≡ image.writeNumber (image.writeAnswer (now (ekey .entry)) (now (ckey .entry)) (numbers number count release edition) (now (payload .entry)) (now (output .entry))) ⌝ }
+    ensures written { λ _. ⌜ now (output .exit) ≡ image.writeOutput (image.writeAnswer (now (ekey .entry)) (now (ckey .entry)) (numbers number count release edition) (now (payload .entry)) (now (output .entry))) (now (ekey .entry)) (now (ckey .entry)) (numbers number count release edition) (previous .bytes) (now (payload .entry)) (now (output .entry)) ⌝ }
 {
-    let answer = image::write(ekey, ckey, number, count, release, payload, output);
+    let numbers = Numbers {
+        number,
+        count,
+        release,
+        edition,
+    };
+    let bytes = previous.bytes;
+    let answer = image::write(ekey, ckey, numbers, bytes, payload, output);
     answer.number()
 }
 

@@ -27,13 +27,14 @@ use Rattle.sp800_38b.proofs.Same.{cmac-same, cmac-by}
 use Rattle.layout.specs.Layout.{headBytes}
 use Rattle.header.specs.Rules.{firstOf, closed}
 use Rattle.layout.specs.declared.Head.{Head}
+use Rattle.header.specs.declared.Progress.{Progress}
 use Rattle.header.specs.declared.Reason.the-variants.{AfterLast, CheckWrong}
 use Rattle.header.specs.declared.Verdict.the-variants.{Accepted, Refused}
 use Rattle.layout.proofs.Laws.{head-octets}
 use Rattle.header.proofs.Order.{all-false}
 use Rattle.format.specs.Edition.{Edition}
 use Rattle.format.specs.Sealed.{filled, front, sealed, opened, checks, zeroAfter}
-use Rattle.format.specs.Judge.{Keys, Standing, tests, judge}
+use Rattle.format.specs.Judge.{Keys, tests, judge}
 use Rattle.format.specs.Lent.{usable, lentMac, lentKeys}
 use Rattle.format.specs.declared.Rounds.{Rounds}
 
@@ -110,7 +111,7 @@ module _ (t t' : List ℕ) (pt : t ≡ forwardTable) (pi : t' ≡ inverseTable) 
 
   -- ---- a reader's keys
 
-  module _ (ew dw cw k1 k2 : List ℕ) (n : Rounds) (pd : dw ≡ inverseWords ew (n .enc)) (p1 : k1 ≡ key1 (oneTable t cw (n .chk))) (p2 : k2 ≡ key2 (oneTable t cw (n .chk))) (ed : Edition) (s : Standing) (bt : Bytes (ed .tail (s .last))) (b : List ℕ) (o : Octets 512 b) where
+  module _ (ew dw cw k1 k2 : List ℕ) (n : Rounds) (pd : dw ≡ inverseWords ew (n .enc)) (p1 : k1 ≡ key1 (oneTable t cw (n .chk))) (p2 : k2 ≡ key2 (oneTable t cw (n .chk))) (ed : Edition) (s : Progress) (bt : Bytes (ed .tail (s .last))) (b : List ℕ) (o : Octets 512 b) where
     abbrev keys : Keys
     keys = lentKeys t t' ew dw cw k1 k2 n
 
@@ -125,7 +126,7 @@ module _ (t t' : List ℕ) (pt : t ≡ forwardTable) (pi : t' ≡ inverseTable) 
         both false y q = let z : _≡_ {A = ℕ} 0 1 = cc in absurd (omega arith)
 
     -- both refuse every block where no keys gave the schedules
-    refused : (k : Keys) → k .usable ≡ false → judge k ed s b ≡ choose (closed (s .progress)) (Refused AfterLast) (Refused CheckWrong)
+    refused : (k : Keys) → k .usable ≡ false → judge k ed s b ≡ choose (closed s) (Refused AfterLast) (Refused CheckWrong)
     unfolding judge firstOf
     refused k e = rw e
 

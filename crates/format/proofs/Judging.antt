@@ -4,7 +4,7 @@ use mathlib.Core.Bool.{Bool, true, false, _&&_, not}
 use mathlib.Core.List.{List, [], _∷_, _++_}
 use Prim.Native.Nat.{ℕ, _<_}
 use native.Mathlib.Omega.{arith}
-use borrow.Author.Tests.{eqb-true, eq-eqb, leb-true, not-false}
+use borrow.Author.Tests.{eqb-true, eqb-false, eq-eqb, leb-true, not-false}
 use lib.Dec.{eqb, ltb, leb}
 use lib.ListN.{length, take, drop, length-drop}
 use lib.Seq.{take-all}
@@ -13,6 +13,7 @@ use Rattle.blocks.specs.Blocks.{blockAt}
 use Rattle.blocks.proofs.Laws.{block-at}
 use Rattle.schedule.specs.Schedule.{roundCount}
 use Rattle.layout.specs.Layout.{headOf}
+use Rattle.header.specs.Marks.{selected, markFor}
 use Rattle.header.specs.Rules.{firstOf, closed, countFits, headTests}
 use Rattle.layout.specs.declared.Head.{Head}
 use Rattle.header.specs.declared.Reason.{Reason}
@@ -22,9 +23,9 @@ use Rattle.header.specs.declared.Verdict.the-variants.{Accepted, Refused}
 use Rattle.header.proofs.Order.{hit, miss, through, unless, after-tests, all-false}
 use Rattle.layout.proofs.Laws.{head-of-first}
 use Rattle.header.proofs.Laws.{number-below}
-use Rattle.format.specs.Edition.{Edition, one}
+use Rattle.format.specs.Edition.{Edition, tailOf}
 use Rattle.format.specs.Sealed.{Mac, checks, zeroAfter, fillZero}
-use Rattle.format.specs.Judge.{Keys, Standing, standing, tests, judge}
+use Rattle.format.specs.Judge.{Keys, tests, judge, either, ofBoth}
 use Rattle.format.specs.Lent.{usable, filledOut, headRead, judged}
 use Rattle.format.specs.declared.Rounds.{Rounds}
 use Rattle.format.specs.declared.Judged.{Judged}
@@ -66,37 +67,54 @@ module _ (c : Mac) (tail b : List ℕ) where
       go true false e = refl
       go false false e = refl
 
+-- ---- the header
+
+-- of a block, the header read is its own
+pub head-of-block : (b : List ℕ) → length b ≡ 512 → headRead b ≡ headOf b
+head-of-block b size = ap headOf (block-at b 0 (omega arith)) ∙ head-of-first b
+
+-- so the cover that it selects is the block's, and where there is no block, no cover is right
+pub cover-read : (c : Mac) → Sixteen c → (last b : List ℕ) (h : Head) → h ≡ headRead b → (u : Bool)
+    → (u && checks c (tailOf (selected (h .reserved)) last) b) ≡ (u && checks c (tailOf (selected (headOf b .reserved)) last) b)
+cover-read c es last b h eh u = go (eqb (length b) 512) refl
+  where
+    go : (t : Bool) → eqb (length b) 512 ≡ t → (u && checks c (tailOf (selected (h .reserved)) last) b) ≡ (u && checks c (tailOf (selected (headOf b .reserved)) last) b)
+    go true e = ap (λ (x : Head). u && checks c (tailOf (selected (x .reserved)) last) b) (eh ∙ head-of-block b (eqb-true (length b) 512 e))
+    go false e =
+        let n = eqb-false (length b) 512 e in
+        sym (checks-none c (tailOf (selected (h .reserved)) last) b es n u) ∙ checks-none c (tailOf (selected (headOf b .reserved)) last) b es n u
+
 -- ---- the tests in their order
 
 pub refused-not : {A : Type 0} (v : Verdict) (r : Reason) → v ≡ Refused r → v ≡ Accepted → A
 refused-not v r e f = let z : Refused r ≡ Accepted = sym e ∙ f in let y : _≡_ {A = ℕ} 0 1 = cc in absurd (omega arith)
 
-module _ (k : Keys) (ed : Edition) (s : Standing) (b : List ℕ) where
+module _ (k : Keys) (ed : Edition) (s : Progress) (b : List ℕ) where
   fill : List (Bool × Reason)
   fill = (not (fillZero (k .enc) b), FillNotZero) ∷ []
 
   rest : List (Bool × Reason)
-  rest = headTests (ed .mark) (s .progress) (headOf b) ++ fill
+  rest = headTests (ed .mark) s (headOf b) ++ fill
 
   checked : Bool
   checked = k .usable && checks (k .mac) (ed .tail (s .last)) b
 
-  pub judged-last : closed (s .progress) ≡ true → Refused AfterLast ≡ judge k ed s b
+  pub judged-last : closed s ≡ true → Refused AfterLast ≡ judge k ed s b
   unfolding judge
-  judged-last e = hit (closed (s .progress)) AfterLast _ e
+  judged-last e = hit (closed s) AfterLast _ e
 
-  module _ (e1 : closed (s .progress) ≡ false) where
+  module _ (e1 : closed s ≡ false) where
     pub judged-check : (k .usable && checks (k .mac) (ed .tail (s .last)) b) ≡ false → Refused CheckWrong ≡ judge k ed s b
     unfolding judge
-    judged-check e2 = miss (closed (s .progress)) AfterLast _ (Refused CheckWrong) e1 (hit (not (k .usable && checks (k .mac) (ed .tail (s .last)) b)) CheckWrong _ (ap not e2))
+    judged-check e2 = miss (closed s) AfterLast _ (Refused CheckWrong) e1 (hit (not (k .usable && checks (k .mac) (ed .tail (s .last)) b)) CheckWrong _ (ap not e2))
 
     module _ (e2 : (k .usable && checks (k .mac) (ed .tail (s .last)) b) ≡ true) where
       -- the header's tests, and then the fill's
-      judged-rest : judge k ed s b ≡ unless (firstOf (headTests (ed .mark) (s .progress) (headOf b))) (firstOf fill)
+      judged-rest : judge k ed s b ≡ unless (firstOf (headTests (ed .mark) s (headOf b))) (firstOf fill)
       unfolding judge rest fill checked
       judged-rest =
-          sym (miss (closed (s .progress)) AfterLast _ (firstOf rest) e1 (miss (not checked) CheckWrong rest (firstOf rest) (ap not e2) refl))
-          ∙ after-tests (headTests (ed .mark) (s .progress) (headOf b)) fill
+          sym (miss (closed s) AfterLast _ (firstOf rest) e1 (miss (not checked) CheckWrong rest (firstOf rest) (ap not e2) refl))
+          ∙ after-tests (headTests (ed .mark) s (headOf b)) fill
 
       -- a right check is a block's, so the header read is the block's own, and the fill's test is the one asked
       pub block-size : Sixteen (k .mac) → length b ≡ 512
@@ -106,20 +124,19 @@ module _ (k : Keys) (ed : Edition) (s : Standing) (b : List ℕ) where
           second true u q = q
           second false u q = let y : _≡_ {A = ℕ} 0 1 = cc in absurd (omega arith)
 
-      module _ (es : Sixteen (k .mac)) (h : Head) (eh : h ≡ headRead b) where
+      module _ (es : Sixteen (k .mac)) (h : Head) (eh : h ≡ headRead b) (mark : ℕ) (em : h ≡ headOf b → mark ≡ ed .mark) where
         head-is : h ≡ headOf b
-        head-is = eh ∙ ap headOf (block-at b 0 (omega (arith, block-size es))) ∙ head-of-first b
+        head-is = eh ∙ head-of-block b (block-size es)
 
-        pub judged-head : (v : Verdict) (r : Reason) → v ≡ firstOf (headTests (ed .mark) (s .progress) h) → v ≡ Refused r → v ≡ judge k ed s b
-        judged-head v r ev er =
-            let f : v ≡ firstOf (headTests (ed .mark) (s .progress) (headOf b)) = ev ∙ ap (λ (x : Head). firstOf (headTests (ed .mark) (s .progress) x)) head-is in
-            sym (judged-rest ∙ ap (λ (x : Verdict). unless x (firstOf fill)) (sym f ∙ er) ∙ sym er)
+        tests-are : headTests mark s h ≡ headTests (ed .mark) s (headOf b)
+        tests-are = ap₂ (λ (m : ℕ) (x : Head). headTests m s x) (em head-is) head-is
 
-        module _ (e3 : Accepted ≡ firstOf (headTests (ed .mark) (s .progress) h)) where
+        pub judged-head : (v : Verdict) (r : Reason) → v ≡ firstOf (headTests mark s h) → v ≡ Refused r → v ≡ judge k ed s b
+        judged-head v r ev er = sym (judged-rest ∙ ap (λ (x : Verdict). unless x (firstOf fill)) (sym (ev ∙ ap firstOf tests-are) ∙ er) ∙ sym er)
+
+        module _ (e3 : Accepted ≡ firstOf (headTests mark s h)) where
           fill-test : judge k ed s b ≡ firstOf fill
-          fill-test =
-              let f : Accepted ≡ firstOf (headTests (ed .mark) (s .progress) (headOf b)) = e3 ∙ ap (λ (x : Head). firstOf (headTests (ed .mark) (s .progress) x)) head-is in
-              judged-rest ∙ ap (λ (x : Verdict). unless x (firstOf fill)) (sym f)
+          fill-test = judged-rest ∙ ap (λ (x : Verdict). unless x (firstOf fill)) (sym (e3 ∙ ap firstOf tests-are))
 
           fill-asked : filledOut (k .enc) (h .len) b ≡ fillZero (k .enc) b
           unfolding filledOut
@@ -134,26 +151,56 @@ module _ (k : Keys) (ed : Edition) (s : Standing) (b : List ℕ) where
           judged-passed e4 = miss (not (fillZero (k .enc) b)) FillNotZero [] Accepted (ap not (sym fill-asked ∙ e4)) through ∙ sym fill-test
 
   -- an accepted block's number is below 65,535, so the next one fits
-  pub accepted-next : judge k ed s b ≡ Accepted → s .progress .next < 65535
+  pub accepted-next : judge k ed s b ≡ Accepted → s .next < 65535
   unfolding judge headTests countFits
   accepted-next e =
       let a = all-false (tests k ed s b) e in
       let h = headOf b in
       let fits = not-false (countFits (h .count)) (a .1 .1 .0) in
-      let n = eqb-true (h .number) (s .progress .next) (not-false (eqb (h .number) (s .progress .next)) (a .1 .1 .1 .0)) in
-      omega (arith, n, number-below (s .progress) h (a .0) fits n (a .1 .1 .1 .1 .0), leb-true (h .count) 65535 (both (ltb 0 (h .count)) (leb (h .count) 65535) fits))
+      let n = eqb-true (h .number) (s .next) (not-false (eqb (h .number) (s .next)) (a .1 .1 .1 .0)) in
+      omega (arith, n, number-below s h (a .0) fits n (a .1 .1 .1 .1 .0), leb-true (h .count) 65535 (both (ltb 0 (h .count)) (leb (h .count) 65535) fits))
     where
       both : (t u : Bool) → (t && u) ≡ true → u ≡ true
       both true u q = q
       both false u q = let y : _≡_ {A = ℕ} 0 1 = cc in absurd (omega arith)
 
+-- ---- the reader of both editions: cover and mark are chosen by the header read
+
+module _ (k : Keys) (es : Sixteen (k .mac)) (s : Progress) (b : List ℕ) (h : Head) (eh : h ≡ headRead b) where
+  abbrev held : Edition
+  held = either s (headOf b .reserved)
+
+  pub both-last : closed s ≡ true → Refused AfterLast ≡ ofBoth k .verdict s b
+  both-last e1 = judged-last k held s b e1
+
+  module _ (e1 : closed s ≡ false) (tail : List ℕ) (et : tail ≡ tailOf (selected (h .reserved)) (s .last)) where
+    cover-is : (k .usable && checks (k .mac) tail b) ≡ (k .usable && checks (k .mac) (held .tail (s .last)) b)
+    cover-is = ap (λ (x : List ℕ). k .usable && checks (k .mac) x b) et ∙ cover-read (k .mac) es (s .last) b h eh (k .usable)
+
+    pub both-check : (k .usable && checks (k .mac) tail b) ≡ false → Refused CheckWrong ≡ ofBoth k .verdict s b
+    both-check e2 = judged-check k held s b e1 (sym cover-is ∙ e2)
+
+    module _ (e2 : (k .usable && checks (k .mac) tail b) ≡ true) (mark : ℕ) (em : mark ≡ markFor s (h .reserved)) where
+      mark-is : h ≡ headOf b → mark ≡ held .mark
+      mark-is e = em ∙ ap (λ (x : Head). markFor s (x .reserved)) e
+
+      pub both-head : (v : Verdict) (r : Reason) → v ≡ firstOf (headTests mark s h) → v ≡ Refused r → v ≡ ofBoth k .verdict s b
+      both-head = judged-head k held s b e1 (sym cover-is ∙ e2) es h eh mark mark-is
+
+      module _ (e3 : Accepted ≡ firstOf (headTests mark s h)) where
+        pub both-fill : filledOut (k .enc) (h .len) b ≡ false → Refused FillNotZero ≡ ofBoth k .verdict s b
+        both-fill = judged-fill k held s b e1 (sym cover-is ∙ e2) es h eh mark mark-is e3
+
+        pub both-passed : filledOut (k .enc) (h .len) b ≡ true → Accepted ≡ ofBoth k .verdict s b
+        both-passed = judged-passed k held s b e1 (sym cover-is ∙ e2) es h eh mark mark-is e3
+
 -- ---- a block as the code reads it
 
 module _ (k : Keys) (s : Progress) (b : List ℕ) (r : Judged) (e : r ≡ judged k s b) where
-  pub verdict-read : r .verdict ≡ judge k one (standing s) b
+  pub verdict-read : r .verdict ≡ ofBoth k .verdict s b
   unfolding judged
   verdict-read = ap (λ (x : Judged). x .verdict) e
 
   pub head-read : length b ≡ 512 → r .head ≡ headOf b
   unfolding judged
-  head-read size = ap (λ (x : Judged). x .head) e ∙ ap headOf (block-at b 0 (omega arith)) ∙ head-of-first b
+  head-read size = ap (λ (x : Judged). x .head) e ∙ head-of-block b size

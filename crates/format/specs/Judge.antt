@@ -5,13 +5,14 @@ use mathlib.Core.List.{List, [], _∷_, _++_}
 use lib.ListN.{drop}
 use Rattle.octets.specs.Blocks.{BlockCipher}
 use Rattle.layout.specs.Layout.{checkAt, headOf}
+use Rattle.header.specs.Marks.{selected, markFor}
 use Rattle.header.specs.Rules.{firstOf, closed, headTests}
 use Rattle.layout.specs.declared.Head.{Head}
 use Rattle.header.specs.declared.Progress.{Progress}
 use Rattle.header.specs.declared.Reason.{Reason}
 use Rattle.header.specs.declared.Reason.the-variants.{AfterLast, CheckWrong, FillNotZero}
 use Rattle.header.specs.declared.Verdict.{Verdict}
-use Rattle.format.specs.Edition.{Edition, noCheck}
+use Rattle.format.specs.Edition.{Edition, noCheck, tailOf}
 use Rattle.format.specs.Sealed.{Mac, opened, checks, fillZero}
 
 -- the cipher of a reader's encryption key, what makes a check under its check key, and whether keys gave them: a reader whose start was refused
@@ -21,43 +22,53 @@ pub record Keys : Type 0 where
   pub mac : Mac
   pub usable : Bool
 
--- where a reader stands: how far it has come, and the check of the block that it accepted last
-pub record Standing : Type 0 where
-  pub progress : Progress
-  pub last : List ℕ
-
 -- before the first block
-abbrev pub begun : Progress
-begun = record { next = 0; count = 0; release = 0 }
+abbrev pub fresh : Progress
+fresh = record { next = 0; count = 0; release = 0; edition = 0; last = noCheck }
 
-abbrev pub standing : Progress → Standing
-standing s = record { progress = s; last = noCheck }
+-- after a block with this header and this check was accepted
+abbrev pub advanced : Progress → Head → (check : List ℕ) → Progress
+advanced s h check = record { next = s .next + 1; count = h .count; release = h .release; edition = selected (h .reserved); last = check }
 
-abbrev pub fresh : Standing
-fresh = standing begun
-
--- after a block was accepted
-abbrev pub advanced : Progress → Head → Progress
-advanced s h = record { next = s .next + 1; count = h .count; release = h .release }
-
-abbrev pub taken : Standing → List ℕ → Standing
-taken s b = record { progress = advanced (s .progress) (headOf b); last = drop checkAt b }
+abbrev pub taken : Progress → List ℕ → Progress
+taken s b = advanced s (headOf b) (drop checkAt b)
 
 -- 16, 14, then 7, 8, 9, 10, 12, 13 of the header, then 15, in that order
-abbrev pub tests : Keys → Edition → Standing → List ℕ → List (Bool × Reason)
+abbrev pub tests : Keys → Edition → Progress → List ℕ → List (Bool × Reason)
 tests k ed s b =
-    (closed (s .progress), AfterLast)
+    (closed s, AfterLast)
     ∷ (not (k .usable && checks (k .mac) (ed .tail (s .last)) b), CheckWrong)
-    ∷ (headTests (ed .mark) (s .progress) (headOf b) ++ ((not (fillZero (k .enc) b), FillNotZero) ∷ []))
+    ∷ (headTests (ed .mark) s (headOf b) ++ ((not (fillZero (k .enc) b), FillNotZero) ∷ []))
 
-unfoldable pub judge : Keys → Edition → Standing → List ℕ → Verdict
+unfoldable pub judge : Keys → Edition → Progress → List ℕ → Verdict
 judge k ed s b = firstOf (tests k ed s b)
+
+-- ---- readers
 
 -- a reader of blocks: its verdict on a block where it stands, and the bytes that it hands out of one that it accepts
 pub record BlockReader : Type 0 where
-  pub verdict : Standing → List ℕ → Verdict
+  pub verdict : Progress → List ℕ → Verdict
   pub plain : List ℕ → List ℕ
+
+-- what a reader holds a block to: an edition, by how far it has come and what the block has in bytes 14 and 15
+abbrev pub Rule : Type 0
+Rule = Progress → ℕ → Edition
+
+abbrev pub byRule : Keys → Rule → BlockReader
+byRule k rule = record { verdict = λ s b. judge k (rule s (headOf b .reserved)) s b; plain = opened (k .enc) }
+
+-- one edition alone
+abbrev pub always : Edition → Rule
+always ed s v = ed
+
+-- both editions: the check covers what it does in the edition that the block selects, and the mark is that of the edition fixed
+abbrev pub either : Rule
+either s v = record { mark = markFor s v; tail = tailOf (selected v) }
 
 -- the reader of one edition
 abbrev pub ofEdition : Keys → Edition → BlockReader
-ofEdition k ed = record { verdict = judge k ed; plain = opened (k .enc) }
+ofEdition k ed = byRule k (always ed)
+
+-- the reader of both
+abbrev pub ofBoth : Keys → BlockReader
+ofBoth k = byRule k either

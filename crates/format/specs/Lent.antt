@@ -14,9 +14,8 @@ use Rattle.sp800_38b.specs.Cmac.{cmacBy}
 use Rattle.layout.specs.Layout.{bodySize, blockSize, headOf}
 use Rattle.layout.specs.declared.Head.{Head}
 use Rattle.header.specs.declared.Progress.{Progress}
-use Rattle.format.specs.Edition.{one}
 use Rattle.format.specs.Sealed.{Mac, sealed, opened, zeroAfter}
-use Rattle.format.specs.Judge.{Keys, standing, judge}
+use Rattle.format.specs.Judge.{Keys, ofBoth}
 use Rattle.format.specs.declared.Rounds.{Rounds}
 use Rattle.format.specs.declared.Judged.{Judged}
 
@@ -55,6 +54,6 @@ sealedOver ek mac tail h p out = choose (leb (length p) bodySize && leb blockSiz
 abbrev pub headRead : List ℕ → Head
 headRead b = headOf (blockAt b 0)
 
--- the verdict of the reader of edition 1, with the header
+-- the verdict of the reader of both editions, with the header
 unfoldable pub judged : Keys → Progress → List ℕ → Judged
-judged k s b = record { verdict = judge k one (standing s) b; head = headRead b }
+judged k s b = record { verdict = ofBoth k .verdict s b; head = headRead b }

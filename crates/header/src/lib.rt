@@ -5,15 +5,19 @@ ghost use mathlib.Core.Bool.{_&&_, _||_, not};
 ghost use Prim.Native.Nat.{_+_, _/_};
 ghost use lib.Dec.{eqb, ltb, leb};
 ghost use Rattle.layout.specs.Layout.{bodySize};
+ghost use Rattle.header.specs.Marks.{isEdition, markOf, tailSize, markFor};
+ghost use Rattle.header.specs.Marks as spec;
 ghost use Rattle.header.specs.Rules.{reasonNumber, reasonValue, valueOf, firstOf, done, closed, countFits, lengthFits, headTests};
 
-// How far a reader has come: the number that it expects, and, where that is not 0, the count and release that its first accepted
-// block fixed.
+// How far a reader has come: the number that it expects, and, where that is not 0, the count, release and edition that its first
+// accepted block fixed; and the check of the block that it accepted last, zeros before the first.
 #[repr(C)]
 pub struct Progress {
     pub next: u32,
     pub count: u32,
     pub release: u32,
+    pub edition: u32,
+    pub last: [u8; 16],
 }
 
 // Why a block was refused, with the value found.
@@ -112,8 +116,54 @@ pub fn length_fits(number: u32, count: u32, len: usize) -> bool
     }
 }
 
+pub fn is_edition(edition: u32) -> bool
+    ensures { λ r. ⌜ r ≡ isEdition edition ⌝ }
+{
+    if edition == 1 {
+        return true;
+    }
+    edition == 2
+}
+
+// The edition that a value in bytes 14 and 15 selects.
+pub fn selected(reserved: u16) -> u32
+    ensures { λ r. ⌜ r ≡ spec.selected reserved ⌝ }
+{
+    if reserved == 2 { 2 } else { 1 }
+}
+
+// What marks a block of an edition; where there is none, a value that two bytes do not hold.
+pub fn mark_of(edition: u32) -> u32
+    ensures { λ r. ⌜ r ≡ markOf edition ⌝ }
+{
+    if edition == 1 {
+        return 0;
+    }
+    if edition == 2 {
+        return 2;
+    }
+    65536
+}
+
+// How many bytes of the check of the block before the check of a block covers besides.
+pub fn tail_size(edition: u32) -> usize
+    ensures { λ r. ⌜ r ≡ tailSize edition ⌝ }
+{
+    if edition == 2 { 16 } else { 0 }
+}
+
+// The mark that a reader of both editions asks for: of the edition that it has fixed, and before that of the one selected.
+pub fn mark_for(progress: Progress, reserved: u16) -> u32
+    ensures { λ r. ⌜ r ≡ markFor progress reserved ⌝ }
+{
+    if 0 < progress.next {
+        return mark_of(progress.edition);
+    }
+    mark_of(selected(reserved))
+}
+
 // What the tests 7, 8, 9, 10, 12 and 13 say of a header, asked in that order; the reserved number is to be the mark.
-pub fn judge_head(progress: Progress, head: Head, mark: u16) -> Verdict
+pub fn judge_head(progress: Progress, head: Head, mark: u32) -> Verdict
     ensures { λ r. ⌜ r ≡ firstOf (headTests mark progress head) ⌝ }
 {
     let number = head.number;
@@ -139,7 +189,7 @@ pub fn judge_head(progress: Progress, head: Head, mark: u16) -> Verdict
     if !length_fits(number, count, len as usize) {
         return Verdict::Refused(Reason::Length(len));
     }
-    if reserved != mark {
+    if reserved as u32 != mark {
         return Verdict::Refused(Reason::Reserved(reserved));
     }
     Verdict::Accepted

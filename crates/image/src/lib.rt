@@ -2,7 +2,10 @@
 use format::Rounds;
 use header::Progress;
 use header::count_fits;
+use header::is_edition;
 use header::length_fits;
+use header::mark_of;
+use header::tail_size;
 use layout::Head;
 use schedule::KeyAnswer;
 use schedule::KeySchedule;
@@ -11,9 +14,14 @@ use tables::forward_table;
 use turns::Stop;
 use turns::turn;
 ghost use mathlib.Core.Path.{_≡_};
-ghost use mathlib.Core.Bool.{_&&_};
+ghost use mathlib.Core.Bool.{true, _&&_};
+ghost use Prim.Native.Nat.{_≤_};
 ghost use lib.Dec.{eqb};
+ghost use lib.ListN.{length};
 ghost use Rattle.schedule.specs.Schedule.{keyNumber};
+ghost use Rattle.header.specs.Marks.{isEdition};
+ghost use Rattle.format.specs.Edition.{tailOf, edition};
+ghost use Rattle.format.specs.Sealed.{headFor};
 ghost use Rattle.image.specs.Lent.{sealedUnder};
 ghost use Rattle.image.specs.Calls as spec;
 
@@ -23,6 +31,7 @@ pub enum WriteAnswer {
     WriteCount,
     WriteNumber,
     WriteLength,
+    WriteEdition,
     WriteRoom,
 }
 
@@ -37,8 +46,17 @@ impl WriteAnswer {
             WriteAnswer::WriteCount => 7,
             WriteAnswer::WriteNumber => 8,
             WriteAnswer::WriteLength => 12,
+            WriteAnswer::WriteEdition => 13,
         }
     }
+}
+
+// What a block says of itself: its number, how many blocks the image has, its release, and its edition, which is 1 or 2.
+pub struct Numbers {
+    pub number: u32,
+    pub count: u32,
+    pub release: u32,
+    pub edition: u32,
 }
 
 // The schedules of the encryption key and of the check key, and how far the reader has come.
@@ -79,26 +97,25 @@ impl Completion {
     }
 }
 
-// Seals a payload into the first 512 bytes of the output, as one block of an image.
+// Seals a payload into the first 512 bytes of the output, as one block of an image; in edition 2 on the check of the block before.
 // A refused call leaves the output as it was, and so do bytes of it past the block.
 pub fn write(
     ekey: &[u8],
     ckey: &[u8],
-    number: u32,
-    count: u32,
-    release: u32,
+    numbers: Numbers,
+    previous: [u8; 16],
     payload: &[u8],
     output: &mut [u8],
 ) -> WriteAnswer
-    ensures answer { λ r. ⌜ r ≡ spec.writeAnswer (now (ekey .entry)) (now (ckey .entry)) number count (now (payload .entry)) (now (output .entry)) ⌝ }
-    ensures written { λ r. ⌜ now (output .exit) ≡ spec.writeOutput r (now (ekey .entry)) (now (ckey .entry)) number count release (now (payload .entry)) (now (output .entry)) ⌝ }
+    ensures answer { λ r. ⌜ r ≡ spec.writeAnswer (now (ekey .entry)) (now (ckey .entry)) numbers (now (payload .entry)) (now (output .entry)) ⌝ }
+    ensures written { λ r. ⌜ now (output .exit) ≡ spec.writeOutput r (now (ekey .entry)) (now (ckey .entry)) numbers previous (now (payload .entry)) (now (output .entry)) ⌝ }
 {
     let made_e = KeySchedule::new(ekey);
     let made_c = KeySchedule::new(ckey);
     let eanswer = made_e.answer;
     let canswer = made_c.answer;
     let keys = both_taken(eanswer, canswer);
-    let answer = judge_write(keys, number, count, payload.len(), output.len());
+    let answer = judge_write(keys, numbers, payload.len(), output.len());
     let WriteAnswer::Written = answer else {
         return answer;
     };
@@ -106,19 +123,12 @@ pub fn write(
         enc: made_e.schedule.rounds,
         chk: made_c.schedule.rounds,
     };
-    let len = payload.len() as u16;
-    let head = Head {
-        number,
-        count,
-        release,
-        len,
-        reserved: 0,
-    };
     seal_under(
         &made_e.schedule.words,
         &made_c.schedule.words,
         rounds,
-        head,
+        numbers,
+        previous,
         payload,
         output,
     );
@@ -150,25 +160,25 @@ pub fn read_start(ekey: &[u8], ckey: &[u8]) -> ReadStarted
 pub fn read_turn(reader: Reader, blocks: &[u8], asked: usize, output: &mut [u8]) -> Turn
     ensures { λ r. ⌜ (r, now (output .exit)) ≡ spec.turnOf reader (now (blocks .entry)) asked (now (output .entry)) ⌝ }
 {
-    let enc = reader.enc;
-    let chk = reader.chk;
     let rounds = Rounds {
-        enc: enc.rounds,
-        chk: chk.rounds,
+        enc: reader.enc.rounds,
+        chk: reader.chk.rounds,
     };
     let done = turn(
-        &enc.words,
-        &chk.words,
+        &reader.enc.words,
+        &reader.chk.words,
         rounds,
         reader.progress,
         blocks,
         asked,
         output,
     );
+    let mut after = reader;
     let progress = done.progress;
+    after.progress = progress;
     let stop = done.stop;
     Turn {
-        reader: Reader { enc, chk, progress },
+        reader: after,
         accepted: done.accepted,
         bytes: done.bytes,
         stop,
@@ -198,20 +208,23 @@ fn both_taken(ekey: KeyAnswer, ckey: KeyAnswer) -> bool
 }
 
 // The writer's answer, from that for the keys and the lengths of payload and output.
-fn judge_write(keys: bool, number: u32, count: u32, len: usize, room: usize) -> WriteAnswer
-    ensures { λ r. ⌜ r ≡ spec.writeRuled keys number count len room ⌝ }
+fn judge_write(keys: bool, numbers: Numbers, len: usize, room: usize) -> WriteAnswer
+    ensures { λ r. ⌜ r ≡ spec.writeRuled keys numbers len room ⌝ }
 {
     if !keys {
         return WriteAnswer::WriteKey;
     }
-    if !count_fits(count) {
+    if !count_fits(numbers.count) {
         return WriteAnswer::WriteCount;
     }
-    if number >= count {
+    if numbers.number >= numbers.count {
         return WriteAnswer::WriteNumber;
     }
-    if !length_fits(number, count, len) {
+    if !length_fits(numbers.number, numbers.count, len) {
         return WriteAnswer::WriteLength;
+    }
+    if !is_edition(numbers.edition) {
+        return WriteAnswer::WriteEdition;
     }
     if room < 512 {
         return WriteAnswer::WriteRoom;
@@ -219,20 +232,25 @@ fn judge_write(keys: bool, number: u32, count: u32, len: usize, room: usize) -> 
     WriteAnswer::Written
 }
 
-// Seals a block of edition 1 under two schedules.
+// Seals the block under two schedules.
 fn seal_under(
     ewords: &[u32; 60],
     cwords: &[u32; 60],
     rounds: Rounds,
-    head: Head,
+    numbers: Numbers,
+    previous: [u8; 16],
     payload: &[u8],
     output: &mut [u8],
 )
-    ensures { λ _. ⌜ now (output .exit) ≡ sealedUnder (now (ewords .entry)) (now (cwords .entry)) rounds head (now (payload .entry)) (now (output .entry)) ⌝ }
+    requires { ⌜ (length (now payload) ≤ 480) × (isEdition (numbers .edition) ≡ true) ⌝ }
+    ensures { λ _. ⌜ now (output .exit) ≡ sealedUnder (now (ewords .entry)) (now (cwords .entry)) rounds (tailOf (numbers .edition) (spec.lastFor (numbers .number) previous)) (headFor (edition (numbers .edition)) (numbers .number) (numbers .count) (numbers .release) (length (now (payload .entry)))) (now (payload .entry)) (now (output .entry)) ⌝ }
 {
     let forth = forward_table();
     let key1 = subkeys::key1(&forth, cwords, rounds.chk);
     let key2 = subkeys::key2(key1);
+    let head = head_for(numbers, payload.len());
+    let last = last_for(numbers.number, previous);
+    let covered = tail_size(numbers.edition);
     seal(
         &forth,
         ewords,
@@ -240,11 +258,35 @@ fn seal_under(
         &key1,
         &key2,
         rounds,
-        b"",
+        &last[0..covered],
         head,
         payload,
         output,
     );
+}
+
+fn head_for(numbers: Numbers, len: usize) -> Head
+    requires { ⌜ (len ≤ 480) × (isEdition (numbers .edition) ≡ true) ⌝ }
+    ensures { λ r. ⌜ r ≡ headFor (edition (numbers .edition)) (numbers .number) (numbers .count) (numbers .release) len ⌝ }
+{
+    let mark = mark_of(numbers.edition);
+    Head {
+        number: numbers.number,
+        count: numbers.count,
+        release: numbers.release,
+        len: len as u16,
+        reserved: mark as u16,
+    }
+}
+
+// The check that a block is sealed on: before number 0 there is none.
+fn last_for(number: u32, previous: [u8; 16]) -> [u8; 16]
+    ensures { λ r. ⌜ r ≡ spec.lastFor number previous ⌝ }
+{
+    if number == 0 {
+        return [0u8; 16];
+    }
+    previous
 }
 
 fn started(answer: KeyAnswer, enc: KeySchedule, chk: KeySchedule) -> ReadStarted
@@ -259,6 +301,8 @@ fn started(answer: KeyAnswer, enc: KeySchedule, chk: KeySchedule) -> ReadStarted
                 next: 0,
                 count: 0,
                 release: 0,
+                edition: 0,
+                last: [0u8; 16],
             },
         },
     }

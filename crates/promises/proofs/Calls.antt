@@ -219,6 +219,7 @@ decrypt-block-determined κs a r r′ s s′ p q = p ∙ sym q
 pub inverse-words-asks-nothing : (κs : _) (a : _) → inverse-words.Asked κs a
 inverse-words-asks-nothing κs a = tt
 
+-- exception: cipher::inverse_words: it refuses nothing, so no memory is kept; it writes all 60 words, and what was there plays no part
 pub inverse-words-determined : (κs : _) (a : _) (r r′ : _) (s s′ : _) → inverse-words.Post κs a r s → inverse-words.Post κs a r′ s′ → now (s .1 .1 .0) ≡ now (s′ .1 .1 .0)
 inverse-words-determined κs a r r′ s s′ p q = p ∙ sym q
 

@@ -22,7 +22,7 @@ use Rattle.turns.specs.declared.Stop.{Stop}
 use Rattle.turns.specs.declared.Stop.the-variants.{End, Asked, Lent, Room, At}
 use Rattle.image.specs.declared.Turn.{Turn}
 use Rattle.wrap.specs.Calls.{wrapNumber}
-use Rattle.dock.specs.Answers.{scheduleAnswer, blockAnswer, modeApplied, chainAnswer, afterMode, checkAnswer, startAnswer, closeAnswer, readStartAnswer, toldOf, turnAnswer}
+use Rattle.dock.specs.Answers.{scheduleAnswer, blockAnswer, modeApplied, chainAnswer, afterMode, checkAnswer, startAnswer, closeAnswer, readStartAnswer, toldOf, turnAnswer, numbers}
 use Rattle.dock.specs.declared.ChainAnswer.{ChainAnswer}
 use Rattle.dock.specs.declared.ReadStartAnswer.{ReadStartAnswer}
 use Rattle.dock.specs.declared.TurnAnswer.{TurnAnswer}
@@ -301,14 +301,18 @@ pub dock-write-asks-nothing : (κs : _) (a : _) → dock-write.Asked κs a
 dock-write-asks-nothing κs a = tt
 
 pub dock-write-determined : (κs : _) (a : _) (r r′ : _) (s s′ : _) → dock-write.Post κs a r s → dock-write.Post κs a r′ s′
-    → (r ≡ r′) × (now (s .1 .1 .1 .1 .1 .1 .0) ≡ now (s′ .1 .1 .1 .1 .1 .1 .0))
+    → (r ≡ r′) × (now (s .1 .1 .1 .1 .1 .1 .1 .1 .0) ≡ now (s′ .1 .1 .1 .1 .1 .1 .1 .1 .0))
 dock-write-determined κs a r r′ s s′ p q = (p .0 ∙ sym (q .0), p .1 ∙ sym (q .1))
 
-pub dock-write-is-write : (κs : _) (a : _) (r : _) (s : _) → dock-write.Post κs a r s → AsBelow writeNumber (λ x. write.Post κs a x s) r
+-- with its numbers as one, and the check before out of its struct
+pub dock-write-is-write : (κs : _) (a : _) (r : _) (s : _) → dock-write.Post κs a r s
+    → AsBelow writeNumber (λ x. write.Post κs (a .0, (a .1 .0, (numbers (a .1 .1 .0) (a .1 .1 .1 .0) (a .1 .1 .1 .1 .0) (a .1 .1 .1 .1 .1 .0), (a .1 .1 .1 .1 .1 .1 .0 .bytes, (a .1 .1 .1 .1 .1 .1 .1 .0, (a .1 .1 .1 .1 .1 .1 .1 .1 .0, tt)))))) x
+    (s .0, (s .1 .0, (numbers (a .1 .1 .0) (a .1 .1 .1 .0) (a .1 .1 .1 .1 .0) (a .1 .1 .1 .1 .1 .0), (a .1 .1 .1 .1 .1 .1 .0 .bytes, (s .1 .1 .1 .1 .1 .1 .1 .0, (s .1 .1 .1 .1 .1 .1 .1 .1 .0, tt))))))) r
 dock-write-is-write κs a r s p = (_, (refl, p .1), p .0)
 
-pub dock-write-refused-keeps : (κs : _) (a : _) (r : _) (s : _) → dock-write.Post κs a r s → (r ≡ 0 → ⊥) → now (s .1 .1 .1 .1 .1 .1 .0) ≡ now (a .1 .1 .1 .1 .1 .1 .0)
-dock-write-refused-keeps κs a r s p h = refused-below (dock-write-is-write κs a r s p) (λ x b. write-refused-keeps κs a x s b) h
+pub dock-write-refused-keeps : (κs : _) (a : _) (r : _) (s : _) → dock-write.Post κs a r s → (r ≡ 0 → ⊥) → now (s .1 .1 .1 .1 .1 .1 .1 .1 .0) ≡ now (a .1 .1 .1 .1 .1 .1 .1 .1 .0)
+dock-write-refused-keeps κs a r s p h = refused-below (dock-write-is-write κs a r s p)
+    (λ x b. write-refused-keeps κs (a .0, (a .1 .0, (numbers (a .1 .1 .0) (a .1 .1 .1 .0) (a .1 .1 .1 .1 .0) (a .1 .1 .1 .1 .1 .0), (a .1 .1 .1 .1 .1 .1 .0 .bytes, (a .1 .1 .1 .1 .1 .1 .1 .0, (a .1 .1 .1 .1 .1 .1 .1 .1 .0, tt)))))) x (s .0, (s .1 .0, (numbers (a .1 .1 .0) (a .1 .1 .1 .0) (a .1 .1 .1 .1 .0) (a .1 .1 .1 .1 .1 .0), (a .1 .1 .1 .1 .1 .1 .0 .bytes, (s .1 .1 .1 .1 .1 .1 .1 .0, (s .1 .1 .1 .1 .1 .1 .1 .1 .0, tt)))))) b) h
 
 pub dock-read-start-asks-nothing : (κs : _) (a : _) → dock-read-start.Asked κs a
 dock-read-start-asks-nothing κs a = tt

@@ -2,11 +2,12 @@
 -- and left as it was. Assumes nothing.
 use mathlib.Core.Path.{_≡_, refl, sym, ap, ap₂, _∙_, subst}
 use mathlib.Core.Bool.{Bool, true, false, _&&_}
+use mathlib.Core.Logic.{_⊎_, inl, inr}
 use mathlib.Core.List.{List, [], _∷_, _++_}
-use Prim.Native.Nat.{ℕ, _+_, _-_, _*_, _≤_, _<_}
+use Prim.Native.Nat.{ℕ, zero, suc, _+_, _-_, _*_, _≤_, _<_}
 use native.Mathlib.Nat.{add-zero, zero-add}
 use native.Mathlib.Omega.{arith}
-use borrow.Author.Tests.{eqb-true, eqb-false, eq-eqb, ltb-true, ltb-false, lt-ltb}
+use borrow.Author.Tests.{eqb-true, eqb-false, eq-eqb, ne-eqb, ltb-true, ltb-false, lt-ltb}
 use lib.Dec.{eqb, ltb}
 use lib.ListN.{length, getD, take, drop, length-append, length-drop, replicate}
 use lib.Seq.{take-at, drop-at, drop-drop, drop-append-add}
@@ -21,6 +22,7 @@ use Rattle.fips197.proofs.Aes.{key-lawful}
 use Rattle.sp800_38a.specs.Pieces.{piece}
 use Rattle.sp800_38b.specs.Cmac.{cmac, SameOutside}
 use Rattle.layout.specs.Layout.{headOf}
+use Rattle.header.specs.Marks.{isEdition, selected, markFor}
 use Rattle.header.specs.Rules.{done, closed, reasonNumber}
 use Rattle.layout.specs.declared.Head.{Head}
 use Rattle.header.specs.declared.Progress.{Progress}
@@ -28,27 +30,30 @@ use Rattle.header.specs.declared.Reason.{Reason}
 use Rattle.header.specs.declared.Reason.the-variants.{AfterLast, CheckWrong, Count, Number, OtherCount, OtherRelease, Length, Reserved, FillNotZero}
 use Rattle.header.specs.declared.Verdict.the-variants.{Accepted, Refused}
 use Rattle.layout.proofs.Laws.{Wide}
-use Rattle.format.specs.Edition.{Edition, one, noCheck}
+use Rattle.format.specs.Edition.{Edition, one, noCheck, tailOf, edition}
 use Rattle.format.specs.Sealed.{filled, headFor, blockFor, sealed, opened, checks, fillZero}
-use Rattle.format.specs.Judge.{Keys, Standing, standing, judge, advanced, BlockReader}
+use Rattle.format.specs.Judge.{Keys, judge, either, ofEdition, ofBoth, fresh, advanced, taken, BlockReader}
 use Rattle.turns.specs.Turn.{Reading, readBlocks, cut, handled, stopNumber}
-use Rattle.image.specs.Calls.{writeNumber, writeOutput, writeAnswer, startOf, keysOf, blocksBy, turnOf, completionOf}
+use Rattle.image.specs.Calls.{writeNumber, writeOutput, writeAnswer, lastFor, blockOf, startOf, keysOf, blocksBy, turnOf, completionOf}
 use Rattle.image.specs.declared.WriteAnswer.{WriteAnswer}
-use Rattle.image.specs.declared.WriteAnswer.the-variants.{Written, WriteKey, WriteCount, WriteNumber, WriteLength, WriteRoom}
+use Rattle.image.specs.declared.WriteAnswer.the-variants.{Written, WriteKey, WriteCount, WriteNumber, WriteLength, WriteEdition, WriteRoom}
+use Rattle.image.specs.declared.Numbers.{Numbers}
 use Rattle.image.specs.declared.Reader.{Reader}
 use Rattle.turns.specs.declared.Stop.{Stop}
 use Rattle.turns.specs.declared.Stop.the-variants.{End, Asked, Lent, Room, At}
 use Rattle.image.specs.declared.Turn.{Turn}
 use Rattle.image.specs.declared.Completion.the-variants.{Complete, NotComplete}
-use Rattle.promises.proofs.ImageTerms.{Proper, Met, Row, Says, unchecked, AllMet, Blocks, payload, plains, parts, AllFilled, Fit, WriteSays, afterWrite, Wrote, blocks, image, inState, readerOf, Waits, moved, FromStart, Sound, readingOf, given, Fair, StartSays, StopSays, CompletionSays, Whole, Lending, AllFair, offered, concat, lendEach, AllFew, readerAfter, AllAccepted, handedOut, counted, andThen}
+use Rattle.promises.proofs.ImageTerms.{Proper, SealedOn, Met, Row, Says, unchecked, AllMet, Blocks, payload, plains, parts, AllFilled, Fit, WriteSays, afterWrite, Wrote, blocks, image, inState, readerOf, Waits, moved, FromStart, Sound, readingOf, given, Fair, StartSays, StopSays, CompletionSays, Whole, Lending, AllFair, offered, concat, lendEach, AllFew, readerAfter, AllAccepted, handedOut, counted, andThen}
 use Rattle.promises.proofs.Keys.{KeyTaken}
 use Rattle.promises.proofs.Lemmas.ImageSealed.{sealed-size, sealed-bytes, sealed-checks, sealed-opened, sealed-head, sealed-fill}
 use Rattle.promises.proofs.Lemmas.ImageJudge.{damaged-check, accepted-met, accepted-sealed, verdict-says, no-row-accepted, met-accepted, fits-count, no-keys}
-use Rattle.promises.proofs.Lemmas.ImageTurn.{out-at, ran-append, ran-state, advance, accepted-le, end-all, ends-or-at, stop-place, stops-by, ran-met, met-ends, first-fixes, none-accepted, no-keys-none, ran-out, ran-bytes, met-filled, parts-length}
+use Rattle.promises.proofs.Lemmas.ImageTurn.{stops-at, out-at, ran-append, ran-state, advance, accepted-le, end-all, ends-or-at, stop-place, stops-by, ran-met, met-ends, first-fixes, none-accepted, no-keys-none, ran-out, ran-bytes, met-filled, parts-length}
 use Rattle.promises.proofs.Lemmas.ImageSound.{sound-end}
-use Rattle.promises.proofs.Lemmas.ImageWhole.{written-length, Passes, Left, left-fits, written-at, image-blocks, image-parts, image-passes}
+use Rattle.promises.proofs.Lemmas.ImageWhole.{written-length, Passes, Left, left-fits, checkBefore, written-at, image-blocks, image-parts, image-passes}
+use Rattle.format.proofs.Editions.{tail-bytes}
+use Rattle.promises.proofs.Lemmas.ImageBoth.{reserved-wide, mark-fits, no-mark, mark-fixed, thirteen, first-edition, passes-both}
 use Rattle.promises.proofs.Lemmas.ImageCalls.{start-keys, output-rest, fresh-start, answer-says, told-turn, keysUnder, start-fresh, start-refused, start-zeros, usable-lawful, fit-written, output-block, cut-length, given-blocks, fair-turn, by-turn, reading-length, reading-le, one-accepted}
-use Rattle.promises.proofs.Lemmas.ImageRead.{blocks-split, size, head-is, opens, keys-are, accepts, refuses, turns-read, from-sound}
+use Rattle.promises.proofs.Lemmas.ImageRead.{blocks-split, size, head-is, opens, keys-are, accepts, refuses, never, other-build, turns-read, from-sound}
 
 -- ---- one block, over any two lawful ciphers
 
@@ -75,25 +80,30 @@ damage-shows ek ck le lc tail h p bt lp bp i d ld bd o n = damaged-check ek ck l
 
 -- ---- demand 2: refusals come where the table says, and only there
 
+-- 13 in words: a value that is neither 0 nor 2, or, once an edition is fixed, one that does not select it
+pub row-13-in-words : (s : Progress) (v : ℕ) → v < 65536 → (v ≡ markFor s v → ⊥) → ((v ≡ 0 → ⊥) × (v ≡ 2 → ⊥)) ⊎ ((0 < s .next) × (selected v ≡ s .edition → ⊥))
+row-13-in-words s v h n = thirteen s v n
+
+pub words-of-row-13 : (s : Progress) (v : ℕ) → v < 65536 → ((v ≡ 0 → ⊥) × (v ≡ 2 → ⊥)) ⊎ ((0 < s .next) × (selected v ≡ s .edition → ⊥)) → v ≡ markFor s v → ⊥
+words-of-row-13 s v h (inl x) e = no-mark s v h (x .0) (x .1) e
+words-of-row-13 s v h (inr x) e = x .1 (mark-fixed s v h (x .0) e)
+
 -- a block is accepted where it meets every test; a reason says which row of the table holds, that none asked before it does, and the value found
-pub verdict-as-told : (k : Keys) (ed : Edition) (s : Standing) (b : List ℕ) → Says k ed s b (judge k ed s b)
+pub verdict-as-told : (k : Keys) (ed : Edition) (s : Progress) (b : List ℕ) → Says k ed s b (judge k ed s b)
 verdict-as-told k ed s b = verdict-says k ed s b (judge k ed s b) refl
 
-pub verdict-done : (k : Keys) (ed : Edition) (s : Standing) (b : List ℕ) → ((r : Reason) → Row k ed s b r → ⊥) → judge k ed s b ≡ Accepted
+pub verdict-done : (k : Keys) (ed : Edition) (s : Progress) (b : List ℕ) → ((r : Reason) → Row k ed s b r → ⊥) → judge k ed s b ≡ Accepted
 verdict-done k ed s b n = no-row-accepted k ed s b n
 
-pub met-is-accepted : (k : Keys) (ed : Edition) (s : Standing) (b : List ℕ) → Met k ed s b → judge k ed s b ≡ Accepted
+pub met-is-accepted : (k : Keys) (ed : Edition) (s : Progress) (b : List ℕ) → Met k ed s b → judge k ed s b ≡ Accepted
 met-is-accepted k ed s b m = met-accepted k ed s b m
 
 -- the writer writes where all holds that it asks; an answer says what does not, and that all asked before it does
-pub write-answer-as-told : (ekey ckey : List ℕ) (number count : ℕ) (payload out : List ℕ)
-    → WriteSays ekey ckey number count (length payload) (length out) (writeAnswer ekey ckey number count payload out)
-write-answer-as-told ekey ckey number count payload out = answer-says ekey ckey number count payload out
+pub write-answer-as-told : (ekey ckey : List ℕ) (n : Numbers) (payload out : List ℕ) → WriteSays ekey ckey n (length payload) (length out) (writeAnswer ekey ckey n payload out)
+write-answer-as-told ekey ckey n payload out = answer-says ekey ckey n payload out
 
-pub fit-is-written : (ekey ckey : List ℕ) (number count : ℕ) (payload out : List ℕ) → Fit ekey ckey number count (length payload) (length out)
-    → writeAnswer ekey ckey number count payload out ≡ Written
-fit-is-written ekey ckey number count payload out f =
-    fit-written ekey ckey number count payload out (f .ekey-taken) (f .ckey-taken) (fits-count count (f .count-low) (f .count-high)) (f .below) (f .len-fits) (f .roomy)
+pub fit-is-written : (ekey ckey : List ℕ) (n : Numbers) (payload out : List ℕ) → Fit ekey ckey n (length payload) (length out) → writeAnswer ekey ckey n payload out ≡ Written
+fit-is-written ekey ckey n payload out f = fit-written ekey ckey n payload out f
 
 -- a start takes both keys, or is refused by 1
 pub start-says : (ekey ckey : List ℕ) → StartSays ekey ckey (startOf ekey ckey .answer)
@@ -111,7 +121,7 @@ pub refused-start-gives-zeros : (ekey ckey : List ℕ) → keyNumber (startOf ek
     → startOf ekey ckey .reader ≡ record {
       enc = record { words = replicate 60 0; rounds = 0 };
       chk = record { words = replicate 60 0; rounds = 0 };
-      progress = record { next = 0; count = 0; release = 0 };
+      progress = record { next = 0; count = 0; release = 0; edition = 0; last = replicate 16 0 };
     }
 refused-start-gives-zeros ekey ckey h = start-zeros ekey ckey h
 
@@ -121,8 +131,8 @@ turn-stop-as-told r lent asked out =
     told-turn r lent asked out (λ (t : Turn × List ℕ). StopSays r lent asked out (t .0 .stop)) (λ x. x) (λ x. x) (λ x. x)
     (λ f. ends-or-at (blocksBy r) s bs (StopSays r lent asked out (R .stop)) (λ q. subst (StopSays r lent asked out) (sym q) (ended f q)) (λ y q. subst (StopSays r lent asked out) (sym q) (stopped f y q)))
   where
-    s : Standing
-    s = standing (r .progress)
+    s : Progress
+    s = r .progress
 
     bs : List (List ℕ)
     bs = given lent asked
@@ -133,24 +143,24 @@ turn-stop-as-told r lent asked out =
     ended : Fair lent asked out → R .stop ≡ End → StopSays r lent asked out End
     ended f q =
         let n : R .accepted ≡ handled lent asked = end-all (blocksBy r) s bs q ∙ cut-length (handled lent asked) lent in
-        (f, subst (λ (m : ℕ). AllMet (keysOf r) one s m bs) n (ran-met (keysOf r) one s bs))
+        (f, subst (λ (m : ℕ). AllMet (keysOf r) either s m bs) n (ran-met (keysOf r) either s bs))
 
     stopped : Fair lent asked out → (y : Reason) → R .stop ≡ At (R .accepted) y → StopSays r lent asked out (At (R .accepted) y)
     stopped f y q =
         let p = stop-place (blocksBy r) s bs (R .accepted) y q in (
           f,
           subst (λ (m : ℕ). R .accepted < m) (cut-length (handled lent asked) lent) (p .1),
-          ran-met (keysOf r) one s bs,
-          subst (λ (t : Standing). Says (keysOf r) one t (getD bs (R .accepted) []) (Refused y)) (ran-state (blocksBy r) s bs)
-              (verdict-says (keysOf r) one (R .standing) (getD bs (R .accepted) []) (Refused y) (p .2)),
+          ran-met (keysOf r) either s bs,
+          subst (λ (t : Progress). Says (keysOf r) (either t (headOf (getD bs (R .accepted) []) .reserved)) t (getD bs (R .accepted) []) (Refused y)) (ran-state (blocksBy r) s bs)
+              (verdict-says (keysOf r) (either (R .progress) (headOf (getD bs (R .accepted) []) .reserved)) (R .progress) (getD bs (R .accepted) []) (Refused y) (p .2)),
         )
 
 pub turn-ends : (r : Reader) (lent : List ℕ) (asked : ℕ) (out : List ℕ) → Fair lent asked out
-    → AllMet (keysOf r) one (standing (r .progress)) (handled lent asked) (given lent asked) → turnOf r lent asked out .0 .stop ≡ End
+    → AllMet (keysOf r) either (r .progress) (handled lent asked) (given lent asked) → turnOf r lent asked out .0 .stop ≡ End
 turn-ends r lent asked out f m =
     ap (λ (t : Turn × List ℕ). t .0 .stop) (fair-turn r lent asked out f)
-    ∙ met-ends (keysOf r) one (standing (r .progress)) (given lent asked)
-    (subst (λ (n : ℕ). AllMet (keysOf r) one (standing (r .progress)) n (given lent asked)) (sym (cut-length (handled lent asked) lent)) m)
+    ∙ met-ends (keysOf r) either (r .progress) (given lent asked)
+    (subst (λ (n : ℕ). AllMet (keysOf r) either (r .progress) n (given lent asked)) (sym (cut-length (handled lent asked) lent)) m)
 
 -- a reader is complete once a block has been accepted and the number expected is the count, or not complete
 pub completion-as-told : (r : Reader) → CompletionSays (r .progress) (completionOf r)
@@ -175,79 +185,72 @@ completed r f e = rw (lt-ltb 0 (r .progress .next) f, eq-eqb (r .progress .next)
 -- ---- demand 2: what the writer leaves
 
 -- it writes the sealed block into the first 512 bytes of the output, and nothing else
-pub write-output : (ekey ckey : List ℕ) (number count release : ℕ) (payload out : List ℕ) → Bytes payload → writeAnswer ekey ckey number count payload out ≡ Written
-    → (take 512 (afterWrite ekey ckey number count release payload out) ≡ blockFor one (aesOf ekey) (aesOf ckey) noCheck number count release payload)
-    × (drop 512 (afterWrite ekey ckey number count release payload out) ≡ drop 512 out)
-write-output ekey ckey number count release payload out bp w =
-    rw w (output-block ekey ckey number count release payload out bp w, output-rest ekey ckey number count release payload out bp w)
+pub write-output : (ekey ckey : List ℕ) (n : Numbers) (previous payload out : List ℕ) → Bytes previous → Bytes payload → writeAnswer ekey ckey n payload out ≡ Written
+    → (take 512 (afterWrite ekey ckey n previous payload out) ≡ blockOf ekey ckey n previous payload)
+    × (drop 512 (afterWrite ekey ckey n previous payload out) ≡ drop 512 out)
+write-output ekey ckey n previous payload out bv bp w =
+    rw w (output-block ekey ckey n previous payload out bv bp w, output-rest ekey ckey n previous payload out bv bp w)
 
-pub write-refusal-keeps : (ekey ckey : List ℕ) (number count release : ℕ) (payload out : List ℕ) → (writeNumber (writeAnswer ekey ckey number count payload out) ≡ 0 → ⊥)
-    → afterWrite ekey ckey number count release payload out ≡ out
-write-refusal-keeps ekey ckey number count release payload out = go (writeAnswer ekey ckey number count payload out)
+-- the check before it is not asked for in edition 1, nor for number 0
+pub previous-unused : (ekey ckey : List ℕ) (n : Numbers) (previous other payload : List ℕ) → (n .edition ≡ 1) ⊎ (n .number ≡ 0) → blockOf ekey ckey n previous payload ≡ blockOf ekey ckey n other payload
+unfolding lastFor tailOf
+previous-unused ekey ckey n previous other payload (inl e) = rw e
+previous-unused ekey ckey n previous other payload (inr e) = rw e
+
+pub write-refusal-keeps : (ekey ckey : List ℕ) (n : Numbers) (previous payload out : List ℕ) → (writeNumber (writeAnswer ekey ckey n payload out) ≡ 0 → ⊥)
+    → afterWrite ekey ckey n previous payload out ≡ out
+write-refusal-keeps ekey ckey n previous payload out = go (writeAnswer ekey ckey n payload out)
   where
-    go : (a : WriteAnswer) → (writeNumber a ≡ 0 → ⊥) → writeOutput a ekey ckey number count release payload out ≡ out
+    go : (a : WriteAnswer) → (writeNumber a ≡ 0 → ⊥) → writeOutput a ekey ckey n previous payload out ≡ out
     go Written h = absurd (h refl)
     go WriteKey h = refl
     go WriteCount h = refl
     go WriteNumber h = refl
     go WriteLength h = refl
+    go WriteEdition h = refl
     go WriteRoom h = refl
 
--- ---- demand 3: what is written is read back
+-- ---- demand 3: what is written is read back, in either edition
 
 -- a reader under the same keys that waits for it accepts it, and finds the payload and zero fill in it
-pub written-is-accepted : (ekey ckey : List ℕ) (number count release : ℕ) (payload b : List ℕ) → Wrote ekey ckey number count release payload b
-    → (s : Progress) → Waits s number count release
-    → (judge (keysOf (readerOf ekey ckey s)) one (standing s) b ≡ Accepted) × (opened (aesOf ekey) b ≡ filled payload)
-written-is-accepted ekey ckey number count release payload b w s a =
-    (accepts ekey ckey number count release payload b w s a, opens ekey ckey number count release payload b w)
+pub written-is-accepted : (ekey ckey : List ℕ) (n : Numbers) (previous payload b : List ℕ) → Wrote ekey ckey n previous payload b
+    → (s : Progress) → Waits s n previous
+    → (ofBoth (keysOf (readerOf ekey ckey s)) .verdict s b ≡ Accepted) × (opened (aesOf ekey) b ≡ filled payload)
+written-is-accepted ekey ckey n previous payload b w s a =
+    (accepts ekey ckey n previous payload b w s a, opens ekey ckey n previous payload b w)
 
 -- so a turn over it moves that reader on by one, hands out the payload and zero fill, and leaves the rest of the output as it was
-pub written-is-read : (ekey ckey : List ℕ) (number count release : ℕ) (payload b : List ℕ) → Wrote ekey ckey number count release payload b
-    → (s : Progress) → Waits s number count release → (asked : ℕ) (out : List ℕ) → 0 < asked → asked ≤ 128 → 480 ≤ length out
+pub written-is-read : (ekey ckey : List ℕ) (n : Numbers) (previous payload b : List ℕ) → Wrote ekey ckey n previous payload b
+    → (s : Progress) → Waits s n previous → (asked : ℕ) (out : List ℕ) → 0 < asked → asked ≤ 128 → 480 ≤ length out
     → turnOf (readerOf ekey ckey s) b asked out
-    ≡ (record { reader = readerOf ekey ckey (advanced s (headFor one number count release (length payload))); accepted = 1; bytes = length payload; stop = End }, over (filled payload) out)
-written-is-read ekey ckey number count release payload b w s a asked out la ha lo =
-    one-accepted (readerOf ekey ckey s) b asked out (size ekey ckey number count release payload b w) la ha lo (accepts ekey ckey number count release payload b w s a)
-    ∙ ap₂ (λ (h : Head) (x : List ℕ). (record { reader = readerOf ekey ckey (advanced s h); accepted = 1; bytes = h .len; stop = End }, over x out))
-    (head-is ekey ckey number count release payload b w)
-    (ap (λ (k : Keys). opened (k .enc) b) (keys-are ekey ckey number count release payload b w s) ∙ opens ekey ckey number count release payload b w)
+    ≡ (record { reader = readerOf ekey ckey (advanced s (headFor (edition (n .edition)) (n .number) (n .count) (n .release) (length payload)) (drop 496 b)); accepted = 1; bytes = length payload; stop = End }, over (filled payload) out)
+written-is-read ekey ckey n previous payload b w s a asked out la ha lo =
+    one-accepted (readerOf ekey ckey s) b asked out (size ekey ckey n previous payload b w) la ha lo (accepts ekey ckey n previous payload b w s a)
+    ∙ ap₂ (λ (h : Head) (x : List ℕ). (record { reader = readerOf ekey ckey (advanced s h (drop 496 b)); accepted = 1; bytes = h .len; stop = End }, over x out))
+    (head-is ekey ckey n previous payload b w)
+    (ap (λ (k : Keys). opened (k .enc) b) (keys-are ekey ckey n previous payload b w s) ∙ opens ekey ckey n previous payload b w)
 
--- ---- demand 3: what is damaged is refused
+-- ---- demand 3: what is damaged is refused, in either edition
 
--- a block that is the written one outside one piece of 16 bytes, the check being piece 31, and is not the written one is refused by a
--- reader under the same keys, wherever it stands: by 16 where no block may follow, else by 14
-pub damaged-is-refused : (ekey ckey : List ℕ) (number count release : ℕ) (payload b : List ℕ) → Wrote ekey ckey number count release payload b
-    → (i : ℕ) (d : List ℕ) → Octets 512 d → SameOutside i d b → (d ≡ b → ⊥)
-    → (s : Progress) (t : Standing) → judge (keysOf (readerOf ekey ckey s)) one t d ≡ choose (closed (t .progress)) (Refused AfterLast) (Refused CheckWrong)
-damaged-is-refused ekey ckey number count release payload b w i d o q n s t = refuses ekey ckey number count release payload b w i d o q n s t
-
--- and ends a turn that has it at any place: the turn accepts no more than the blocks before it, and where it accepts those it stops there
--- by 14, or by 16 where no block may follow them; nothing of it reaches the output
-pub damaged-ends-a-turn : (ekey ckey : List ℕ) (number count release : ℕ) (payload b : List ℕ) → Wrote ekey ckey number count release payload b
-    → (i : ℕ) (d : List ℕ) → Octets 512 d → SameOutside i d b → (d ≡ b → ⊥)
-    → (s : Progress) (lent : List ℕ) (asked : ℕ) (out : List ℕ) → Bytes lent → Fair lent asked out → (p : ℕ) → p < handled lent asked → getD (given lent asked) p [] ≡ d
-    → (turnOf (readerOf ekey ckey s) lent asked out .0 .accepted ≤ p)
-    × (turnOf (readerOf ekey ckey s) lent asked out .0 .accepted ≡ p
-    → turnOf (readerOf ekey ckey s) lent asked out .0 .stop ≡ At p (choose (closed (turnOf (readerOf ekey ckey s) lent asked out .0 .reader .progress)) AfterLast CheckWrong))
-    × (drop (480 * p) (turnOf (readerOf ekey ckey s) lent asked out .1) ≡ drop (480 * p) out)
-damaged-ends-a-turn ekey ckey number count release payload b w i d o q n s lent asked out bl f p hp at =
+-- a block that is refused by 16 or 14 where the reader stands after those before it ends its turn
+refused-ends-a-turn : (r : Reader) (lent : List ℕ) (asked : ℕ) (out : List ℕ) → Bytes lent → Fair lent asked out → (p : ℕ) → p < handled lent asked
+    → blocksBy r .verdict (moved (r .progress) (take p (given lent asked))) (getD (given lent asked) p []) ≡ unchecked (moved (r .progress) (take p (given lent asked)))
+    → (turnOf r lent asked out .0 .accepted ≤ p)
+    × (turnOf r lent asked out .0 .accepted ≡ p → turnOf r lent asked out .0 .stop ≡ At p (choose (closed (turnOf r lent asked out .0 .reader .progress)) AfterLast CheckWrong))
+    × (drop (480 * p) (turnOf r lent asked out .1) ≡ drop (480 * p) out)
+refused-ends-a-turn r lent asked out bl f p hp v =
     subst (λ (t : Turn × List ℕ). (t .0 .accepted ≤ p) × (t .0 .accepted ≡ p → t .0 .stop ≡ At p (choose (closed (t .0 .reader .progress)) AfterLast CheckWrong)) × (drop (480 * p) (t .1) ≡ drop (480 * p) out))
-    (sym (fair-turn r lent asked out f)) (e .0, e .1, rest)
+    (sym (fair-turn r lent asked out f)) (e .0, λ q. e .1 q .0 ∙ ap (λ (x : Progress). At p (choose (closed x) AfterLast CheckWrong)) (sym (e .1 q .1)), rest)
   where
-    r : Reader
-    r = readerOf ekey ckey s
+    t : Progress
+    t = moved (r .progress) (take p (given lent asked))
 
-    why : Standing → Reason
-    why t = choose (closed (t .progress)) AfterLast CheckWrong
+    by : (u : Bool) → choose u (Refused AfterLast) (Refused CheckWrong) ≡ Refused (choose u AfterLast CheckWrong)
+    by true = refl
+    by false = refl
 
-    either : (t : Bool) → choose t (Refused AfterLast) (Refused CheckWrong) ≡ Refused (choose t AfterLast CheckWrong)
-    either true = refl
-    either false = refl
-
-    e : (readingOf r lent asked .accepted ≤ p) × (readingOf r lent asked .accepted ≡ p → readingOf r lent asked .stop ≡ At p (why (readingOf r lent asked .standing)))
-    e = stops-by (blocksBy r) (standing s) (given lent asked) p why (subst (λ (m : ℕ). p < m) (sym (cut-length (handled lent asked) lent)) hp)
-        (λ t. ap (judge (keysOf r) one t) at ∙ refuses ekey ckey number count release payload b w i d o q n s t ∙ either (closed (t .progress)))
+    e : (readingOf r lent asked .accepted ≤ p) × (readingOf r lent asked .accepted ≡ p → (readingOf r lent asked .stop ≡ At p (choose (closed t) AfterLast CheckWrong)) × (readingOf r lent asked .progress ≡ t))
+    e = stops-at (blocksBy r) (r .progress) (given lent asked) p (choose (closed t) AfterLast CheckWrong) (subst (λ (m : ℕ). p < m) (sym (cut-length (handled lent asked) lent)) hp) (v ∙ by (closed t))
 
     rest : drop (480 * p) (over (readingOf r lent asked .out) out) ≡ drop (480 * p) out
     rest =
@@ -257,8 +260,64 @@ damaged-ends-a-turn ekey ckey number count release payload b w i d o q n s lent 
         let k = 480 * p - length (R .out) in
         ap (λ (x : ℕ). drop x (over (R .out) out)) (sym m) ∙ drop-append-add (R .out) (drop (length (R .out)) out) k ∙ drop-drop k (length (R .out)) out ∙ ap (λ (x : ℕ). drop x out) m
 
+-- a block that is the written one outside one piece of 16 bytes, the check being piece 31, and is not the written one, offered to a reader
+-- under the same keys whose last check is the one that it was sealed on, as far as its edition asks for it
+module _ (ekey ckey : List ℕ) (n : Numbers) (previous payload b : List ℕ) (w : Wrote ekey ckey n previous payload b)
+    (i : ℕ) (d : List ℕ) (o : Octets 512 d) (q : SameOutside i d b) (differs : d ≡ b → ⊥) where
+  -- is refused by 16 where no block may follow, else by 14, where its bytes 14 and 15 still select the cover that it was sealed with,
+  pub damaged-is-refused : (s t : Progress) → SealedOn n previous (t .last) → selected (headOf d .reserved) ≡ n .edition
+      → ofBoth (keysOf (readerOf ekey ckey s)) .verdict t d ≡ choose (closed t) (Refused AfterLast) (Refused CheckWrong)
+  damaged-is-refused s t on e = refuses ekey ckey n previous payload b w i d o q differs s t on e
+
+  -- and never accepted where the reader has fixed the edition that it was sealed in
+  pub damaged-never-accepted : (s t : Progress) → SealedOn n previous (t .last) → 0 < t .next → t .edition ≡ n .edition → ofBoth (keysOf (readerOf ekey ckey s)) .verdict t d ≡ Accepted → ⊥
+  damaged-never-accepted s t on f e = never ekey ckey n previous payload b w i d o q differs s t on f e
+
+  -- it ends a turn that has it at a place: the turn accepts no more than the blocks before it, and where it accepts those it stops there by
+  -- 14, or by 16 where no block may follow them; nothing of it reaches the output
+  pub damaged-ends-a-turn : (s : Progress) (lent : List ℕ) (asked : ℕ) (out : List ℕ) → Bytes lent → Fair lent asked out → (p : ℕ) → p < handled lent asked → getD (given lent asked) p [] ≡ d
+      → SealedOn n previous (moved s (take p (given lent asked)) .last) → selected (headOf d .reserved) ≡ n .edition
+      → (turnOf (readerOf ekey ckey s) lent asked out .0 .accepted ≤ p)
+      × (turnOf (readerOf ekey ckey s) lent asked out .0 .accepted ≡ p
+      → turnOf (readerOf ekey ckey s) lent asked out .0 .stop ≡ At p (choose (closed (turnOf (readerOf ekey ckey s) lent asked out .0 .reader .progress)) AfterLast CheckWrong))
+      × (drop (480 * p) (turnOf (readerOf ekey ckey s) lent asked out .1) ≡ drop (480 * p) out)
+  damaged-ends-a-turn s lent asked out bl f p hp at on e =
+      refused-ends-a-turn (readerOf ekey ckey s) lent asked out bl f p hp
+      (ap (ofBoth (keysOf (readerOf ekey ckey s)) .verdict (moved s (take p (given lent asked)))) at ∙ damaged-is-refused s (moved s (take p (given lent asked))) on e)
+
+-- damage to a value in bytes 14 and 15 that is neither 0 nor 2 is accepted in no state, and by no reader
+pub other-value-never-accepted : (k : Keys) (s : Progress) (d : List ℕ) → Bytes d → (headOf d .reserved ≡ 0 → ⊥) → (headOf d .reserved ≡ 2 → ⊥) → ofBoth k .verdict s d ≡ Accepted → ⊥
+other-value-never-accepted k s d bd n0 n2 a =
+    no-mark s (headOf d .reserved) (reserved-wide d bd) n0 n2 (accepted-met k (either s (headOf d .reserved)) s d a .head-right .marked)
+
+-- ---- edition 2: builds do not mix
+
+-- a block that the writer sealed in edition 2 on one check is refused by every reader under the same keys whose last check is another: by 16
+-- where no block may follow, else by 14. So are the blocks of another build, and blocks doubled, skipped or out of order
+module _ (ekey ckey : List ℕ) (n : Numbers) (previous payload b : List ℕ) (w : Wrote ekey ckey n previous payload b) (two : n .edition ≡ 2) where
+  pub builds-do-not-mix : (s t : Progress) → Octets 16 (t .last) → (t .last ≡ lastFor (n .number) previous → ⊥)
+      → ofBoth (keysOf (readerOf ekey ckey s)) .verdict t b ≡ choose (closed t) (Refused AfterLast) (Refused CheckWrong)
+  builds-do-not-mix s t ot differs = other-build ekey ckey n previous payload b w two s t ot differs
+
+  -- and it ends a turn that has it at a place where the check before is another
+  pub other-build-ends-a-turn : (s : Progress) (lent : List ℕ) (asked : ℕ) (out : List ℕ) → Bytes lent → Fair lent asked out → (p : ℕ) → p < handled lent asked → getD (given lent asked) p [] ≡ b
+      → Octets 16 (moved s (take p (given lent asked)) .last) → (moved s (take p (given lent asked)) .last ≡ lastFor (n .number) previous → ⊥)
+      → (turnOf (readerOf ekey ckey s) lent asked out .0 .accepted ≤ p)
+      × (turnOf (readerOf ekey ckey s) lent asked out .0 .accepted ≡ p
+      → turnOf (readerOf ekey ckey s) lent asked out .0 .stop ≡ At p (choose (closed (turnOf (readerOf ekey ckey s) lent asked out .0 .reader .progress)) AfterLast CheckWrong))
+      × (drop (480 * p) (turnOf (readerOf ekey ckey s) lent asked out .1) ≡ drop (480 * p) out)
+  other-build-ends-a-turn s lent asked out bl f p hp at ot differs =
+      refused-ends-a-turn (readerOf ekey ckey s) lent asked out bl f p hp
+      (ap (ofBoth (keysOf (readerOf ekey ckey s)) .verdict (moved s (take p (given lent asked)))) at ∙ builds-do-not-mix s (moved s (take p (given lent asked))) ot differs)
+
+-- ---- a reader from before edition 2
+
+-- it is the reader of edition 1 alone, and accepts no block with 2 in bytes 14 and 15
+pub old-reader-takes-no-edition-2 : (k : Keys) (s : Progress) (b : List ℕ) → headOf b .reserved ≡ 2 → ofEdition k one .verdict s b ≡ Accepted → ⊥
+old-reader-takes-no-edition-2 k s b e a = let m = accepted-met k one s b a .head-right .marked in omega (arith, e, m)
+
 -- and whatever a reader accepts was sealed under its keys: it is what the writer makes of the header and payload found in it
-pub accepted-is-sealed : (r : Reader) (ed : Edition) (s : Standing) (b : List ℕ) → Octets 512 b → judge (keysOf r) ed s b ≡ Accepted
+pub accepted-is-sealed : (r : Reader) (ed : Edition) (s : Progress) (b : List ℕ) → Octets 512 b → judge (keysOf r) ed s b ≡ Accepted
     → b ≡ sealed (keysOf r .enc) (keysOf r .mac) (ed .tail (s .last)) (headOf b) (payload (keysOf r .enc) b)
 accepted-is-sealed r ed s b o e =
     let m = accepted-met (keysOf r) ed s b e in
@@ -266,53 +325,76 @@ accepted-is-sealed r ed s b o e =
 
 -- ---- demand 3: a whole image
 
--- the writer writes it, block after block: block i of the payload's i-th 480 bytes
-pub image-is-written : (ekey ckey : List ℕ) (release : ℕ) (payload : List ℕ) → KeyTaken ekey → KeyTaken ckey → release < 4294967296 → length payload ≤ 31456800 → Bytes payload
-    → (i : ℕ) → i < blocks payload → (out : List ℕ) → 512 ≤ length out
-    → (writeAnswer ekey ckey i (blocks payload) (piece 480 payload i) out ≡ Written)
-    × (take 512 (afterWrite ekey ckey i (blocks payload) release (piece 480 payload i) out) ≡ getD (image one (aesOf ekey) (aesOf ckey) release payload) i [])
-image-is-written ekey ckey release payload te tc hr lp bp i hi out lo =
+-- the numbers of block i of a payload's image in an edition
+abbrev pub numbersAt : (edition : ℕ) (payload : List ℕ) (release i : ℕ) → Numbers
+numbersAt edition payload release i = record { number = i; count = blocks payload; release = release; edition = edition }
+
+-- the writer refuses none of them
+pub block-written : (e : ℕ) → isEdition e ≡ true → (ekey ckey : List ℕ) (release : ℕ) (payload : List ℕ) → KeyTaken ekey → KeyTaken ckey → release < 4294967296 → length payload ≤ 31456800 → Bytes payload
+    → (i : ℕ) → i < blocks payload → (out : List ℕ) → 512 ≤ length out → writeAnswer ekey ckey (numbersAt e payload release i) (piece 480 payload i) out ≡ Written
+block-written e known ekey ckey release payload te tc hr lp bp i hi out lo =
     let N = blocks payload in
-    let q = piece 480 payload i in
     let left : Left N i (drop (i * 480) payload) = record {
       most = omega (arith, length-drop (i * 480) payload);
       least = λ a o. omega (arith, length-drop (i * 480) payload);
     } in
-    let a : writeAnswer ekey ckey i N q out ≡ Written = fit-written ekey ckey i N q out te tc (fits-count N (omega arith) (omega arith)) hi (left-fits N i (drop (i * 480) payload) hi left) lo in (
+    fit-written ekey ckey (numbersAt e payload release i) (piece 480 payload i) out
+    (record { ekey-taken = te; ckey-taken = tc; count-low = omega arith; count-high = omega arith; below = hi; len-fits = left-fits N i (drop (i * 480) payload) hi left; known = known; roomy = lo })
+
+-- the writer writes it, block after block: block i of the payload's i-th 480 bytes, on the check of the block before
+pub image-is-written : (e : ℕ) → isEdition e ≡ true → (ekey ckey : List ℕ) (release : ℕ) (payload : List ℕ) → KeyTaken ekey → KeyTaken ckey → release < 4294967296 → length payload ≤ 31456800 → Bytes payload
+    → (i : ℕ) → i < blocks payload → (previous : List ℕ) → Bytes previous → (0 < i → previous ≡ drop 496 (getD (image (edition e) (aesOf ekey) (aesOf ckey) release payload) (i - 1) [])) → (out : List ℕ) → 512 ≤ length out
+    → (writeAnswer ekey ckey (numbersAt e payload release i) (piece 480 payload i) out ≡ Written)
+    × (take 512 (afterWrite ekey ckey (numbersAt e payload release i) previous (piece 480 payload i) out) ≡ getD (image (edition e) (aesOf ekey) (aesOf ckey) release payload) i [])
+unfolding lastFor
+image-is-written e known ekey ckey release payload te tc hr lp bp i hi previous bv before out lo =
+    let q = piece 480 payload i in
+    let a = block-written e known ekey ckey release payload te tc hr lp bp i hi out lo in (
       a,
-      rw a (output-block ekey ckey i N release q out (take-bytes 480 (drop (i * 480) payload) (drop-bytes (i * 480) payload bp)) a)
-          ∙ ap (λ (n : ℕ). blockFor one (aesOf ekey) (aesOf ckey) noCheck n N release q) (sym (zero-add i))
-          ∙ sym (written-at one (aesOf ekey) (aesOf ckey) N release N 0 noCheck payload i hi),
+      rw a (output-block ekey ckey (numbersAt e payload release i) previous q out bv (take-bytes 480 (drop (i * 480) payload) (drop-bytes (i * 480) payload bp)) a)
+          ∙ ap₂ (λ (n : ℕ) (x : List ℕ). blockFor (edition e) (aesOf ekey) (aesOf ckey) x n (blocks payload) release q) (sym (zero-add i)) (on i before)
+          ∙ sym (written-at (edition e) (aesOf ekey) (aesOf ckey) (blocks payload) release (blocks payload) 0 noCheck payload i hi),
     )
+  where
+    on : (i : ℕ) → (0 < i → previous ≡ drop 496 (getD (image (edition e) (aesOf ekey) (aesOf ckey) release payload) (i - 1) []))
+        → choose (eqb i 0) noCheck previous ≡ checkBefore (edition e) (aesOf ekey) (aesOf ckey) (blocks payload) release noCheck (image (edition e) (aesOf ekey) (aesOf ckey) release payload) i
+    on zero f = refl
+    on (suc i) f =
+        let z : suc i - 1 ≡ i = omega arith in
+        rw (ne-eqb (suc i) 0 (λ q. omega arith)) (f (omega arith) ∙ ap (λ (j : ℕ). drop 496 (getD (image (edition e) (aesOf ekey) (aesOf ckey) release payload) j [])) z)
 
 pub image-length : (ed : Edition) (ek ck : BlockCipher) (release : ℕ) (payload : List ℕ) → length (image ed ek ck release payload) ≡ blocks payload
 image-length ed ek ck release payload = written-length ed ek ck (blocks payload) release (blocks payload) 0 noCheck payload
 
-pub one-proper : Proper one
-one-proper = record { mark-wide = omega arith; tail-bytes = λ x o k. omega arith }
+pub edition-proper : (n : ℕ) → isEdition n ≡ true → Proper (edition n)
+edition-proper n e = record { mark-wide = mark-fits n e; tail-bytes = λ x o. tail-bytes n x (o .bytes) }
 
 -- read in any turns, whatever blocks each lends and however many it asks for, as long as those handled are the image, every block is
 -- accepted, the reader is complete at the end, the payloads handed out join to the payload, and the lengths given add up to its length
-pub image-is-read : (ekey ckey : List ℕ) (release : ℕ) (payload : List ℕ) → KeyTaken ekey → KeyTaken ckey → release < 4294967296 → length payload ≤ 31456800 → Bytes payload
-    → (ls : List Lending) → AllFair ls → offered ls ≡ image one (aesOf ekey) (aesOf ckey) release payload
+pub image-is-read : (n : ℕ) → isEdition n ≡ true → (ekey ckey : List ℕ) (release : ℕ) (payload : List ℕ) → KeyTaken ekey → KeyTaken ckey → release < 4294967296 → length payload ≤ 31456800 → Bytes payload
+    → (ls : List Lending) → AllFair ls → offered ls ≡ image (edition n) (aesOf ekey) (aesOf ckey) release payload
     → AllAccepted (startOf ekey ckey .reader) ls
     × (completionOf (readerAfter (startOf ekey ckey .reader) ls) ≡ Complete)
     × (handedOut (startOf ekey ckey .reader) ls ≡ payload)
     × (counted (startOf ekey ckey .reader) ls ≡ length payload)
 unfolding completionOf
-image-is-read ekey ckey release payload te tc hr lp bp ls f e =
+image-is-read n known ekey ckey release payload te tc hr lp bp ls f e =
     let le = key-lawful ekey te in
     let lc = key-lawful ckey tc in
     let r = startOf ekey ckey .reader in
     let s = start-fresh ekey ckey te tc in
-    let w : Blocks (offered ls) = rw e (image-blocks one one-proper (aesOf ekey) (aesOf ckey) le lc release payload hr lp bp) in
-    let p : Passes (keysUnder ekey ckey) one (standing (r .progress)) (offered ls) = rw (s .2, e) (image-passes one one-proper (aesOf ekey) (aesOf ckey) le lc release payload hr lp bp) in
+    let pe = edition-proper n known in
+    let w : Blocks (offered ls) = rw e (image-blocks (edition n) pe (aesOf ekey) (aesOf ckey) le lc release payload hr lp bp) in
+    let q : Passes (keysUnder ekey ckey) either fresh (offered ls) =
+    passes-both (keysUnder ekey ckey) n fresh (offered ls) w (λ l. absurd (omega arith))
+    (rw e (image-passes (edition n) pe (aesOf ekey) (aesOf ckey) le lc release payload hr lp bp)) in
+    let p : Passes (keysUnder ekey ckey) either (r .progress) (offered ls) = rw (s .2) q in
     let t = turns-read (keysUnder ekey ckey) le r (s .1) ls f w p in
-    let whole : parts (aesOf ekey) (offered ls) ≡ payload = ap (parts (aesOf ekey)) e ∙ image-parts one one-proper (aesOf ekey) (aesOf ckey) le lc release payload hr lp bp in
+    let whole : parts (aesOf ekey) (offered ls) ≡ payload = ap (parts (aesOf ekey)) e ∙ image-parts (edition n) pe (aesOf ekey) (aesOf ckey) le lc release payload hr lp bp in
     (t .0, rw (t .1), t .2 ∙ whole, t .3 ∙ ap length whole)
 
 -- blocks may be cut into turns at any place: a run over some and then a run over the rest are the run over all
-pub cut-anywhere : (d : BlockReader) (s : Standing) (cs bs : List (List ℕ)) → readBlocks d s cs .stop ≡ End → readBlocks d s (cs ++ bs) ≡ andThen (readBlocks d s cs) (readBlocks d (readBlocks d s cs .standing) bs)
+pub cut-anywhere : (d : BlockReader) (s : Progress) (cs bs : List (List ℕ)) → readBlocks d s cs .stop ≡ End → readBlocks d s (cs ++ bs) ≡ andThen (readBlocks d s cs) (readBlocks d (readBlocks d s cs .progress) bs)
 cut-anywhere d s cs bs e = ran-append d s cs bs e
 
 -- blocks lent one after another are those that the turn handles, as far as it asks for them
@@ -352,7 +434,7 @@ pub turn-advance : (r : Reader) (lent : List ℕ) (asked : ℕ) (out : List ℕ)
 turn-advance r lent asked out =
     by-turn r lent asked out (λ (t : Turn × List ℕ). t .0 .reader .progress .next ≡ r .progress .next + t .0 .accepted)
     (sym (add-zero (r .progress .next))) (sym (add-zero (r .progress .next))) (sym (add-zero (r .progress .next)))
-    (λ f. advance (blocksBy r) (standing (r .progress)) (given lent asked))
+    (λ f. advance (blocksBy r) (r .progress) (given lent asked))
 
 -- where nothing is refused, they are the blocks handled: the smaller of those lent and the number asked for
 pub turn-takes-all : (r : Reader) (lent : List ℕ) (asked : ℕ) (out : List ℕ)
@@ -360,7 +442,7 @@ pub turn-takes-all : (r : Reader) (lent : List ℕ) (asked : ℕ) (out : List �
 turn-takes-all r lent asked out =
     by-turn r lent asked out (λ (t : Turn × List ℕ). stopNumber (t .0 .stop) ≡ 0 → t .0 .accepted ≡ handled lent asked)
     (λ e. absurd (omega arith)) (λ e. absurd (omega arith)) (λ e. absurd (omega arith))
-    (λ f e. end-all (blocksBy r) (standing (r .progress)) (given lent asked) (ended (readingOf r lent asked .stop) e) ∙ cut-length (handled lent asked) lent)
+    (λ f e. end-all (blocksBy r) (r .progress) (given lent asked) (ended (readingOf r lent asked .stop) e) ∙ cut-length (handled lent asked) lent)
   where
     some : (y : Reason) → reasonNumber y ≡ 0 → ⊥
     some (Count v) e = omega arith
@@ -382,46 +464,51 @@ turn-takes-all r lent asked out =
 
 -- every accepted block met every test, in the state after those before it
 pub turn-met : (r : Reader) (lent : List ℕ) (asked : ℕ) (out : List ℕ)
-    → AllMet (keysOf r) one (standing (r .progress)) (turnOf r lent asked out .0 .accepted) (given lent asked)
+    → AllMet (keysOf r) either (r .progress) (turnOf r lent asked out .0 .accepted) (given lent asked)
 turn-met r lent asked out =
-    by-turn r lent asked out (λ (t : Turn × List ℕ). AllMet (keysOf r) one (standing (r .progress)) (t .0 .accepted) (given lent asked))
-    tt tt tt (λ f. ran-met (keysOf r) one (standing (r .progress)) (given lent asked))
+    by-turn r lent asked out (λ (t : Turn × List ℕ). AllMet (keysOf r) either (r .progress) (t .0 .accepted) (given lent asked))
+    tt tt tt (λ f. ran-met (keysOf r) either (r .progress) (given lent asked))
 
 -- the state moves by the accepted blocks alone, and the keys stay: a refused block changes nothing, and may be offered again
 pub turn-state : (r : Reader) (lent : List ℕ) (asked : ℕ) (out : List ℕ)
-    → turnOf r lent asked out .0 .reader ≡ inState r (moved (standing (r .progress)) (take (turnOf r lent asked out .0 .accepted) (given lent asked)) .progress)
+    → turnOf r lent asked out .0 .reader ≡ inState r (moved (r .progress) (take (turnOf r lent asked out .0 .accepted) (given lent asked)))
 turn-state r lent asked out =
-    by-turn r lent asked out (λ (t : Turn × List ℕ). t .0 .reader ≡ inState r (moved (standing (r .progress)) (take (t .0 .accepted) (given lent asked)) .progress))
-    refl refl refl (λ f. ap (λ (x : Standing). inState r (x .progress)) (ran-state (blocksBy r) (standing (r .progress)) (given lent asked)))
+    by-turn r lent asked out (λ (t : Turn × List ℕ). t .0 .reader ≡ inState r (moved (r .progress) (take (t .0 .accepted) (given lent asked))))
+    refl refl refl (λ f. ap (λ (x : Progress). inState r x) (ran-state (blocksBy r) (r .progress) (given lent asked)))
 
 -- a refusal names the place of its block, which is the number of blocks accepted, and gives that block's verdict
 pub turn-place : (r : Reader) (lent : List ℕ) (asked : ℕ) (out : List ℕ) (place : ℕ) (reason : Reason) → turnOf r lent asked out .0 .stop ≡ At place reason
     → (place ≡ turnOf r lent asked out .0 .accepted)
-    × (judge (keysOf r) one (standing (turnOf r lent asked out .0 .reader .progress)) (getD (given lent asked) place []) ≡ Refused reason)
+    × (blocksBy r .verdict (turnOf r lent asked out .0 .reader .progress) (getD (given lent asked) place []) ≡ Refused reason)
 unfolding judge
 turn-place r lent asked out p y =
     by-turn r lent asked out
-    (λ (t : Turn × List ℕ). t .0 .stop ≡ At p y → (p ≡ t .0 .accepted) × (judge (keysOf r) one (standing (t .0 .reader .progress)) (getD (given lent asked) p []) ≡ Refused y))
+    (λ (t : Turn × List ℕ). t .0 .stop ≡ At p y → (p ≡ t .0 .accepted) × (blocksBy r .verdict (t .0 .reader .progress) (getD (given lent asked) p []) ≡ Refused y))
     (λ e. let z : _≡_ {A = ℕ} 0 1 = cc in absurd (omega arith)) (λ e. let z : _≡_ {A = ℕ} 0 1 = cc in absurd (omega arith)) (λ e. let z : _≡_ {A = ℕ} 0 1 = cc in absurd (omega arith))
-    (λ f e. let q = stop-place (blocksBy r) (standing (r .progress)) (given lent asked) p y e in (q .0, q .2))
+    (λ f e. let q = stop-place (blocksBy r) (r .progress) (given lent asked) p y e in (q .0, q .2))
 
--- the first accepted block fixes count and release, for all that follow
-pub turn-fixes : (r : Reader) (lent : List ℕ) (asked : ℕ) (out : List ℕ) → 0 < turnOf r lent asked out .0 .accepted
+-- the first accepted block fixes count, release and edition, for all that follow
+pub turn-fixes : (r : Reader) (lent : List ℕ) (asked : ℕ) (out : List ℕ) → Bytes lent → 0 < turnOf r lent asked out .0 .accepted
     → (0 < turnOf r lent asked out .0 .reader .progress .next)
     × (turnOf r lent asked out .0 .reader .progress .count ≡ headOf (getD (given lent asked) 0 []) .count)
     × (turnOf r lent asked out .0 .reader .progress .release ≡ headOf (getD (given lent asked) 0 []) .release)
-turn-fixes r lent asked out =
+    × (turnOf r lent asked out .0 .reader .progress .edition ≡ selected (headOf (getD (given lent asked) 0 []) .reserved))
+turn-fixes r lent asked out bl =
     by-turn r lent asked out
     (λ (t : Turn × List ℕ). 0 < t .0 .accepted → (0 < t .0 .reader .progress .next)
-    × (t .0 .reader .progress .count ≡ headOf (getD (given lent asked) 0 []) .count) × (t .0 .reader .progress .release ≡ headOf (getD (given lent asked) 0 []) .release))
+    × (t .0 .reader .progress .count ≡ headOf (getD (given lent asked) 0 []) .count) × (t .0 .reader .progress .release ≡ headOf (getD (given lent asked) 0 []) .release)
+    × (t .0 .reader .progress .edition ≡ selected (headOf (getD (given lent asked) 0 []) .reserved)))
     (λ e. absurd (omega arith)) (λ e. absurd (omega arith)) (λ e. absurd (omega arith))
-    (λ f. go (given lent asked))
+    (λ f. go (given lent asked) (given-blocks lent asked bl))
   where
-    go : (bs : List (List ℕ)) → 0 < readBlocks (blocksBy r) (standing (r .progress)) bs .accepted
-        → (0 < readBlocks (blocksBy r) (standing (r .progress)) bs .standing .progress .next)
-        × (readBlocks (blocksBy r) (standing (r .progress)) bs .standing .progress .count ≡ headOf (getD bs 0 []) .count) × (readBlocks (blocksBy r) (standing (r .progress)) bs .standing .progress .release ≡ headOf (getD bs 0 []) .release)
-    go [] h = absurd (omega (arith, accepted-le (blocksBy r) (standing (r .progress)) []))
-    go (b ∷ bs) h = first-fixes (keysOf r) one (standing (r .progress)) b bs h
+    go : (bs : List (List ℕ)) → Blocks bs → 0 < readBlocks (blocksBy r) (r .progress) bs .accepted
+        → (0 < readBlocks (blocksBy r) (r .progress) bs .progress .next)
+        × (readBlocks (blocksBy r) (r .progress) bs .progress .count ≡ headOf (getD bs 0 []) .count) × (readBlocks (blocksBy r) (r .progress) bs .progress .release ≡ headOf (getD bs 0 []) .release)
+        × (readBlocks (blocksBy r) (r .progress) bs .progress .edition ≡ selected (headOf (getD bs 0 []) .reserved))
+    go [] w h = absurd (omega (arith, accepted-le (blocksBy r) (r .progress) []))
+    go (b ∷ bs) w h =
+        let x = first-fixes (keysOf r) either (r .progress) b bs h in
+        (x .0, x .1, x .2, first-edition (keysOf r) (r .progress) b bs w h)
 
 -- where no block is accepted, nothing is changed: a refused block fixes nothing, and leaves state and output as they were
 pub turn-of-none : (r : Reader) (lent : List ℕ) (asked : ℕ) (out : List ℕ) → turnOf r lent asked out .0 .accepted ≡ 0
@@ -430,8 +517,8 @@ turn-of-none r lent asked out =
     by-turn r lent asked out (λ (t : Turn × List ℕ). t .0 .accepted ≡ 0 → (t .0 .reader ≡ r) × (t .0 .bytes ≡ 0) × (t .1 ≡ out))
     (λ e. (refl, refl, refl)) (λ e. (refl, refl, refl)) (λ e. (refl, refl, refl))
     (λ f e.
-    let n = none-accepted (blocksBy r) (standing (r .progress)) (given lent asked) e in
-    (ap (λ (x : Standing). inState r (x .progress)) (n .0), n .1, ap (λ (x : List ℕ). over x out) (n .2)))
+    let n = none-accepted (blocksBy r) (r .progress) (given lent asked) e in
+    (ap (λ (x : Progress). inState r x) (n .0), n .1, ap (λ (x : List ℕ). over x out) (n .2)))
 
 -- a refusal of the whole turn gives the state it got, counts of 0, and the output as it was
 pub turn-refusal-keeps : (r : Reader) (lent : List ℕ) (asked : ℕ) (out : List ℕ) (why : Stop) → Whole why → turnOf r lent asked out .0 .stop ≡ why
@@ -441,7 +528,7 @@ turn-refusal-keeps r lent asked out why w =
     (λ e. ap (λ (x : Stop). (record { reader = r; accepted = 0; bytes = 0; stop = x }, out)) e)
     (λ e. ap (λ (x : Stop). (record { reader = r; accepted = 0; bytes = 0; stop = x }, out)) e)
     (λ e. ap (λ (x : Stop). (record { reader = r; accepted = 0; bytes = 0; stop = x }, out)) e)
-    (λ f e. absurd (ends-or-at (blocksBy r) (standing (r .progress)) (given lent asked) ⊥ (λ q. not-whole-end why w (sym e ∙ q)) (λ y q. not-whole-at why w (readingOf r lent asked .accepted) y (sym e ∙ q))))
+    (λ f e. absurd (ends-or-at (blocksBy r) (r .progress) (given lent asked) ⊥ (λ q. not-whole-end why w (sym e ∙ q)) (λ y q. not-whole-at why w (readingOf r lent asked .accepted) y (sym e ∙ q))))
   where
     not-whole-end : (x : Stop) → Whole x → x ≡ End → ⊥
     not-whole-end End w e = w
@@ -468,8 +555,8 @@ turn-puts r lent asked out b j =
   where
     go : j < readingOf r lent asked .accepted → (u : Bool) → keysOf r .usable ≡ u
         → take 480 (drop (480 * j) (over (readingOf r lent asked .out) out)) ≡ opened (keysOf r .enc) (getD (given lent asked) j [])
-    go h true e = out-at (keysOf r) one (usable-lawful r e .0) (standing (r .progress)) (given lent asked) (given-blocks lent asked b) (drop (length (readingOf r lent asked .out)) out) j h
-    go h false e = absurd (omega (arith, no-keys-none (keysOf r) one e (standing (r .progress)) (given lent asked)))
+    go h true e = out-at (keysOf r) either (usable-lawful r e .0) (r .progress) (given lent asked) (given-blocks lent asked b) (drop (length (readingOf r lent asked .out)) out) j h
+    go h false e = absurd (omega (arith, no-keys-none (keysOf r) either e (r .progress) (given lent asked)))
 
 -- they are all that is written, and the rest of the output stays
 pub turn-output : (r : Reader) (lent : List ℕ) (asked : ℕ) (out : List ℕ) → Bytes lent
@@ -485,7 +572,7 @@ turn-output r lent asked out b =
     let R = readingOf r lent asked in
     let n : length (R .out) ≡ 480 * R .accepted = reading-length r lent asked out b in
     let a : R .accepted ≤ handled lent asked = reading-le r lent asked out in (
-      take-at (R .out) (drop (length (R .out)) out) (480 * R .accepted) n ∙ ran-out (keysOf r) one (standing (r .progress)) (given lent asked),
+      take-at (R .out) (drop (length (R .out)) out) (480 * R .accepted) n ∙ ran-out (keysOf r) either (r .progress) (given lent asked),
       drop-at (R .out) (drop (length (R .out)) out) (480 * R .accepted) n ∙ ap (λ (m : ℕ). drop m out) n,
       length-append (R .out) (drop (length (R .out)) out) ∙ omega (arith, length-drop (length (R .out)) out, n, a, f .room),
     ))
@@ -501,33 +588,33 @@ turn-fills r lent asked out b =
     (tt, refl) (tt, refl) (tt, refl)
     (λ f.
     let a = go (keysOf r .usable) refl in
-    (a, ran-bytes (blocksBy r) (standing (r .progress)) (given lent asked) ∙ sym (parts-length (keysOf r .enc) (take (readingOf r lent asked .accepted) (given lent asked)) a)))
+    (a, ran-bytes (blocksBy r) (r .progress) (given lent asked) ∙ sym (parts-length (keysOf r .enc) (take (readingOf r lent asked .accepted) (given lent asked)) a)))
   where
     go : (u : Bool) → keysOf r .usable ≡ u → AllFilled (keysOf r .enc) (take (readingOf r lent asked .accepted) (given lent asked))
-    go true e = met-filled (keysOf r) one (usable-lawful r e .0) (standing (r .progress)) (readingOf r lent asked .accepted) (given lent asked) (given-blocks lent asked b) (ran-met (keysOf r) one (standing (r .progress)) (given lent asked))
-    go false e = rw (no-keys-none (keysOf r) one e (standing (r .progress)) (given lent asked)) tt
+    go true e = met-filled (keysOf r) either (usable-lawful r e .0) (r .progress) (readingOf r lent asked .accepted) (given lent asked) (given-blocks lent asked b) (ran-met (keysOf r) either (r .progress) (given lent asked))
+    go false e = rw (no-keys-none (keysOf r) either e (r .progress) (given lent asked)) tt
 
 -- ---- demand 2: a reader without usable keys accepts nothing
 
 -- every block is refused by 14, or by 16 where none may follow
-pub no-keys-refuses : (r : Reader) → keysOf r .usable ≡ false → (ed : Edition) (s : Standing) (b : List ℕ) → judge (keysOf r) ed s b ≡ choose (closed (s .progress)) (Refused AfterLast) (Refused CheckWrong)
+pub no-keys-refuses : (r : Reader) → keysOf r .usable ≡ false → (ed : Edition) (s : Progress) (b : List ℕ) → judge (keysOf r) ed s b ≡ choose (closed s) (Refused AfterLast) (Refused CheckWrong)
 no-keys-refuses r e ed s b = no-keys (keysOf r) ed s b e
 
 pub no-keys-turn : (r : Reader) → keysOf r .usable ≡ false → (lent : List ℕ) (asked : ℕ) (out : List ℕ)
     → (turnOf r lent asked out .0 .accepted ≡ 0) × (turnOf r lent asked out .0 .reader ≡ r) × (turnOf r lent asked out .1 ≡ out)
 no-keys-turn r e lent asked out =
     let a : turnOf r lent asked out .0 .accepted ≡ 0 =
-    by-turn r lent asked out (λ (t : Turn × List ℕ). t .0 .accepted ≡ 0) refl refl refl (λ f. no-keys-none (keysOf r) one e (standing (r .progress)) (given lent asked)) in
+    by-turn r lent asked out (λ (t : Turn × List ℕ). t .0 .accepted ≡ 0) refl refl refl (λ f. no-keys-none (keysOf r) either e (r .progress) (given lent asked)) in
     let n = turn-of-none r lent asked out a in
     (a, n .0, n .2)
 
 -- such is the state that a refused start gives: every block gets 14, and no turn changes anything
 pub refused-start-refuses : (ekey ckey : List ℕ) → keyNumber (startOf ekey ckey .answer) ≡ 1
-    → (b : List ℕ) → judge (keysOf (startOf ekey ckey .reader)) one (standing (startOf ekey ckey .reader .progress)) b ≡ Refused CheckWrong
+    → (b : List ℕ) → blocksBy (startOf ekey ckey .reader) .verdict (startOf ekey ckey .reader .progress) b ≡ Refused CheckWrong
 unfolding closed
 refused-start-refuses ekey ckey h b =
     let s = start-refused ekey ckey h in
-    no-keys-refuses (startOf ekey ckey .reader) (s .0) one (standing (startOf ekey ckey .reader .progress)) b ∙ ap unchecked (s .1)
+    no-keys-refuses (startOf ekey ckey .reader) (s .0) (either (startOf ekey ckey .reader .progress) (headOf b .reserved)) (startOf ekey ckey .reader .progress) b ∙ ap unchecked (s .1)
 
 pub refused-start-turn : (ekey ckey : List ℕ) → keyNumber (startOf ekey ckey .answer) ≡ 1 → (lent : List ℕ) (asked : ℕ) (out : List ℕ)
     → (turnOf (startOf ekey ckey .reader) lent asked out .0 .accepted ≡ 0)
@@ -542,12 +629,12 @@ pub start-is-open : (ekey ckey : List ℕ) → completionOf (startOf ekey ckey .
 unfolding completionOf done
 start-is-open ekey ckey = ap (λ (s : Progress). choose (done s) Complete NotComplete) (fresh-start ekey ckey)
 
-pub last-completes : (r : Reader) (b : List ℕ) → judge (keysOf r) one (standing (r .progress)) b ≡ Accepted
-    → completionOf (inState r (advanced (r .progress) (headOf b))) ≡ choose (eqb (headOf b .number + 1) (headOf b .count)) Complete NotComplete
+pub last-completes : (r : Reader) (b : List ℕ) → blocksBy r .verdict (r .progress) b ≡ Accepted
+    → completionOf (inState r (taken (r .progress) b)) ≡ choose (eqb (headOf b .number + 1) (headOf b .count)) Complete NotComplete
 unfolding completionOf done
 last-completes r b e =
     rw (lt-ltb 0 (r .progress .next + 1) (omega arith))
-    (ap (λ (n : ℕ). choose (eqb (n + 1) (headOf b .count)) Complete NotComplete) (sym (accepted-met (keysOf r) one (standing (r .progress)) b e .head-right .expected)))
+    (ap (λ (n : ℕ). choose (eqb (n + 1) (headOf b .count)) Complete NotComplete) (sym (accepted-met (keysOf r) (either (r .progress) (headOf b .reserved)) (r .progress) b e .head-right .expected)))
 
 -- ---- the states that a start and turns make
 

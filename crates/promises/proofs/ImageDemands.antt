@@ -11,20 +11,21 @@ use Rattle.octets.specs.Octets.{Bytes, Octets, choose, over}
 use Rattle.schedule.specs.Schedule.{keyNumber}
 use Rattle.lookups.specs.Lookups.{tableCipher}
 use Rattle.sp800_38b.specs.Cmac.{SameOutside}
+use Rattle.header.specs.Marks.{selected}
 use Rattle.header.specs.Rules.{closed, verdictNumber}
 use Rattle.header.specs.declared.Progress.{Progress}
 use Rattle.header.specs.declared.Reason.the-variants.{AfterLast, CheckWrong}
 use Rattle.header.specs.declared.Reason.{Reason}
 use Rattle.layout.specs.Layout.{headOf}
-use Rattle.format.specs.Edition.{one}
+use Rattle.format.specs.Edition.{Edition}
 use Rattle.format.specs.Sealed.{filled}
-use Rattle.format.specs.Judge.{Keys, standing}
+use Rattle.format.specs.Judge.{Keys, either}
 use Rattle.format.specs.declared.Rounds.{Rounds}
 use Rattle.format.specs.Lent.{usable, lentMac, lentKeys, isBlock, openedOver, sealedOver}
 use Rattle.format.proofs.Sizes.{mac-sized}
 use Rattle.format.proofs.Judging.{checks-none, verdict-read, head-read}
 use Rattle.format.proofs.Opening.{fill-of-none}
-use Rattle.image.specs.Calls.{writeNumber, writeOutput, keysOf, turnAfter, turnOf, completionNumber}
+use Rattle.image.specs.Calls.{writeNumber, writeOutput, lastFor, keysOf, turnAfter, turnOf, completionNumber}
 use Rattle.turns.specs.Turn.{handled, stopNumber}
 use Rattle.turns.specs.declared.BlocksRead.{BlocksRead}
 use Rattle.image.specs.declared.WriteAnswer.{WriteAnswer}
@@ -33,8 +34,8 @@ use Rattle.image.specs.declared.ReadStarted.{ReadStarted}
 use Rattle.turns.specs.declared.Stop.the-variants.{End, At}
 use Rattle.image.specs.declared.Turn.{Turn}
 use Rattle.promises.proofs.Keys.{KeyTaken}
-use Rattle.promises.proofs.ImageTerms.{Row, Says, AllMet, Fit, WriteSays, StartSays, StopSays, CompletionSays, Fair, Wrote, Waits, Whole, given, readerOf}
-use Rattle.promises.proofs.Image.{verdict-as-told, verdict-done, write-answer-as-told, fit-is-written, start-says, start-takes, refused-start-gives-zeros, turn-stop-as-told, turn-ends, completion-as-told, completed, written-is-read, damaged-ends-a-turn, write-refusal-keeps, turn-refusal-keeps}
+use Rattle.promises.proofs.ImageTerms.{Row, Says, AllMet, Fit, WriteSays, StartSays, StopSays, CompletionSays, Fair, Wrote, SealedOn, Waits, moved, Whole, given, readerOf}
+use Rattle.promises.proofs.Image.{verdict-as-told, verdict-done, write-answer-as-told, fit-is-written, start-says, start-takes, refused-start-gives-zeros, turn-stop-as-told, turn-ends, completion-as-told, completed, written-is-read, damaged-ends-a-turn, other-build-ends-a-turn, write-refusal-keeps, turn-refusal-keeps}
 use Rattle.blocks.proofs.equal.Reads as equal
 use Rattle.layout.proofs.head_of.Reads as head-of
 use Rattle.layout.proofs.head_bytes.Reads as head-bytes
@@ -42,6 +43,11 @@ use Rattle.header.proofs.complete.Reads as complete
 use Rattle.header.proofs.closed.Reads as is-closed
 use Rattle.header.proofs.count_fits.Reads as count-fits
 use Rattle.header.proofs.length_fits.Reads as length-fits
+use Rattle.header.proofs.is_edition.Reads as is-edition
+use Rattle.header.proofs.selected.Reads as is-selected
+use Rattle.header.proofs.mark_of.Reads as mark-of
+use Rattle.header.proofs.tail_size.Reads as tail-size
+use Rattle.header.proofs.mark_for.Reads as mark-for
 use Rattle.header.proofs.judge_head.Reads as judge-head
 use Rattle.seal.proofs.check_holds.Reads as check-holds
 use Rattle.opening.proofs.fill_is_zero.Reads as fill-is-zero
@@ -95,6 +101,36 @@ length-fits-asks-nothing κs a = tt
 
 pub length-fits-determined : (κs : _) (a : _) (r r′ : _) (s s′ : _) → length-fits.Post κs a r s → length-fits.Post κs a r′ s′ → r ≡ r′
 length-fits-determined κs a r r′ s s′ p q = p ∙ sym q
+
+pub is-edition-asks-nothing : (κs : _) (a : _) → is-edition.Asked κs a
+is-edition-asks-nothing κs a = tt
+
+pub is-edition-determined : (κs : _) (a : _) (r r′ : _) (s s′ : _) → is-edition.Post κs a r s → is-edition.Post κs a r′ s′ → r ≡ r′
+is-edition-determined κs a r r′ s s′ p q = p ∙ sym q
+
+pub selected-asks-nothing : (κs : _) (a : _) → is-selected.Asked κs a
+selected-asks-nothing κs a = tt
+
+pub selected-determined : (κs : _) (a : _) (r r′ : _) (s s′ : _) → is-selected.Post κs a r s → is-selected.Post κs a r′ s′ → r ≡ r′
+selected-determined κs a r r′ s s′ p q = p ∙ sym q
+
+pub mark-of-asks-nothing : (κs : _) (a : _) → mark-of.Asked κs a
+mark-of-asks-nothing κs a = tt
+
+pub mark-of-determined : (κs : _) (a : _) (r r′ : _) (s s′ : _) → mark-of.Post κs a r s → mark-of.Post κs a r′ s′ → r ≡ r′
+mark-of-determined κs a r r′ s s′ p q = p ∙ sym q
+
+pub tail-size-asks-nothing : (κs : _) (a : _) → tail-size.Asked κs a
+tail-size-asks-nothing κs a = tt
+
+pub tail-size-determined : (κs : _) (a : _) (r r′ : _) (s s′ : _) → tail-size.Post κs a r s → tail-size.Post κs a r′ s′ → r ≡ r′
+tail-size-determined κs a r r′ s s′ p q = p ∙ sym q
+
+pub mark-for-asks-nothing : (κs : _) (a : _) → mark-for.Asked κs a
+mark-for-asks-nothing κs a = tt
+
+pub mark-for-determined : (κs : _) (a : _) (r r′ : _) (s s′ : _) → mark-for.Post κs a r s → mark-for.Post κs a r′ s′ → r ≡ r′
+mark-for-determined κs a r r′ s s′ p q = p ∙ sym q
 
 pub judge-head-asks-nothing : (κs : _) (a : _) → judge-head.Asked κs a
 judge-head-asks-nothing κs a = tt
@@ -163,14 +199,18 @@ module _ (κs : _) (a : _) (r : _) (s : _) (p : judge.Post κs a r s) where
   abbrev lent : Keys
   lent = lentKeys (now (a .0)) (now (a .1 .0)) (now (a .1 .1 .0)) (now (a .1 .1 .1 .0)) (now (a .1 .1 .1 .1 .0)) (now (a .1 .1 .1 .1 .1 .0)) (now (a .1 .1 .1 .1 .1 .1 .0)) (a .1 .1 .1 .1 .1 .1 .1 .0)
 
-  pub judge-as-told : Says lent one (standing (a .1 .1 .1 .1 .1 .1 .1 .1 .0)) (now (a .1 .1 .1 .1 .1 .1 .1 .1 .1 .0)) (r .verdict)
-  judge-as-told =
-      subst (Says lent one (standing (a .1 .1 .1 .1 .1 .1 .1 .1 .0)) (now (a .1 .1 .1 .1 .1 .1 .1 .1 .1 .0)))
-      (sym (verdict-read lent (a .1 .1 .1 .1 .1 .1 .1 .1 .0) (now (a .1 .1 .1 .1 .1 .1 .1 .1 .1 .0)) r p)) (verdict-as-told lent one (standing (a .1 .1 .1 .1 .1 .1 .1 .1 .0)) (now (a .1 .1 .1 .1 .1 .1 .1 .1 .1 .0)))
+  -- the edition that it is held to
+  abbrev held-to : Edition
+  held-to = either (a .1 .1 .1 .1 .1 .1 .1 .1 .0) (headOf (now (a .1 .1 .1 .1 .1 .1 .1 .1 .1 .0)) .reserved)
 
-  pub judge-done : ((q : Reason) → Row lent one (standing (a .1 .1 .1 .1 .1 .1 .1 .1 .0)) (now (a .1 .1 .1 .1 .1 .1 .1 .1 .1 .0)) q → ⊥) → verdictNumber (r .verdict) ≡ 0
+  pub judge-as-told : Says lent held-to (a .1 .1 .1 .1 .1 .1 .1 .1 .0) (now (a .1 .1 .1 .1 .1 .1 .1 .1 .1 .0)) (r .verdict)
+  judge-as-told =
+      subst (Says lent held-to (a .1 .1 .1 .1 .1 .1 .1 .1 .0) (now (a .1 .1 .1 .1 .1 .1 .1 .1 .1 .0)))
+      (sym (verdict-read lent (a .1 .1 .1 .1 .1 .1 .1 .1 .0) (now (a .1 .1 .1 .1 .1 .1 .1 .1 .1 .0)) r p)) (verdict-as-told lent held-to (a .1 .1 .1 .1 .1 .1 .1 .1 .0) (now (a .1 .1 .1 .1 .1 .1 .1 .1 .1 .0)))
+
+  pub judge-done : ((q : Reason) → Row lent held-to (a .1 .1 .1 .1 .1 .1 .1 .1 .0) (now (a .1 .1 .1 .1 .1 .1 .1 .1 .1 .0)) q → ⊥) → verdictNumber (r .verdict) ≡ 0
   judge-done n =
-      ap verdictNumber (verdict-read lent (a .1 .1 .1 .1 .1 .1 .1 .1 .0) (now (a .1 .1 .1 .1 .1 .1 .1 .1 .1 .0)) r p ∙ verdict-done lent one (standing (a .1 .1 .1 .1 .1 .1 .1 .1 .0)) (now (a .1 .1 .1 .1 .1 .1 .1 .1 .1 .0)) n)
+      ap verdictNumber (verdict-read lent (a .1 .1 .1 .1 .1 .1 .1 .1 .0) (now (a .1 .1 .1 .1 .1 .1 .1 .1 .1 .0)) r p ∙ verdict-done lent held-to (a .1 .1 .1 .1 .1 .1 .1 .1 .0) (now (a .1 .1 .1 .1 .1 .1 .1 .1 .1 .0)) n)
 
   pub judge-reads-the-header : length (now (a .1 .1 .1 .1 .1 .1 .1 .1 .1 .0)) ≡ 512 → r .head ≡ headOf (now (a .1 .1 .1 .1 .1 .1 .1 .1 .1 .0))
   judge-reads-the-header e = head-read lent (a .1 .1 .1 .1 .1 .1 .1 .1 .0) (now (a .1 .1 .1 .1 .1 .1 .1 .1 .1 .0)) r p e
@@ -193,20 +233,20 @@ pub write-asks-nothing : (κs : _) (a : _) → write.Asked κs a
 write-asks-nothing κs a = tt
 
 pub write-determined : (κs : _) (a : _) (r r′ : _) (s s′ : _) → write.Post κs a r s → write.Post κs a r′ s′
-    → (r ≡ r′) × (now (s .1 .1 .1 .1 .1 .1 .0) ≡ now (s′ .1 .1 .1 .1 .1 .1 .0))
+    → (r ≡ r′) × (now (s .1 .1 .1 .1 .1 .0) ≡ now (s′ .1 .1 .1 .1 .1 .0))
 write-determined κs a r r′ s s′ p q =
     let e : r ≡ r′ = p .0 ∙ sym (q .0) in
     (e, p .1 ∙ rw e (sym (q .1)))
 
 pub write-refused-keeps : (κs : _) (a : _) (r : _) (s : _) → write.Post κs a r s → (writeNumber r ≡ 0 → ⊥)
-    → now (s .1 .1 .1 .1 .1 .1 .0) ≡ now (a .1 .1 .1 .1 .1 .1 .0)
+    → now (s .1 .1 .1 .1 .1 .0) ≡ now (a .1 .1 .1 .1 .1 .0)
 write-refused-keeps κs a r s p h =
     let ekey = now (a .0) in
     let ckey = now (a .1 .0) in
-    let payload = now (a .1 .1 .1 .1 .1 .0) in
-    let out = now (a .1 .1 .1 .1 .1 .1 .0) in
-    p .1 ∙ ap (λ (x : WriteAnswer). writeOutput x ekey ckey (a .1 .1 .0) (a .1 .1 .1 .0) (a .1 .1 .1 .1 .0) payload out) (p .0)
-    ∙ write-refusal-keeps ekey ckey (a .1 .1 .0) (a .1 .1 .1 .0) (a .1 .1 .1 .1 .0) payload out (λ e. h (ap writeNumber (p .0) ∙ e))
+    let payload = now (a .1 .1 .1 .1 .0) in
+    let out = now (a .1 .1 .1 .1 .1 .0) in
+    p .1 ∙ ap (λ (x : WriteAnswer). writeOutput x ekey ckey (a .1 .1 .0) (a .1 .1 .1 .0) payload out) (p .0)
+    ∙ write-refusal-keeps ekey ckey (a .1 .1 .0) (a .1 .1 .1 .0) payload out (λ e. h (ap writeNumber (p .0) ∙ e))
 
 pub read-turn-asks-nothing : (κs : _) (a : _) → read-turn.Asked κs a
 read-turn-asks-nothing κs a = tt
@@ -266,21 +306,21 @@ module _ (κs : _) (a : _) (r : _) (s : _) (p : turn.Post κs a r s) where
   pub turn-as-told : StopSays held turnLent asked before (r .stop)
   turn-as-told = subst (StopSays held turnLent asked before) (sym (ap (λ (x : Turn × List ℕ). x .0 .stop) turn-is-the-readers)) (turn-stop-as-told held turnLent asked before)
 
-  pub turn-done : Fair turnLent asked before → AllMet (keysOf held) one (standing (a .1 .1 .1 .0)) (handled turnLent asked) (given turnLent asked) → stopNumber (r .stop) ≡ 0
+  pub turn-done : Fair turnLent asked before → AllMet (keysOf held) either (a .1 .1 .1 .0) (handled turnLent asked) (given turnLent asked) → stopNumber (r .stop) ≡ 0
   turn-done f m = ap (λ (x : Turn × List ℕ). stopNumber (x .0 .stop)) turn-is-the-readers ∙ ap stopNumber (turn-ends held turnLent asked before f m)
 
 -- ---- demand 2: each answer is the first row of the table that holds, and where none does the call is done
 
 pub write-as-told : (κs : _) (a : _) (r : _) (s : _) → write.Post κs a r s
-    → WriteSays (now (a .0)) (now (a .1 .0)) (a .1 .1 .0) (a .1 .1 .1 .0) (length (now (a .1 .1 .1 .1 .1 .0))) (length (now (a .1 .1 .1 .1 .1 .1 .0))) r
+    → WriteSays (now (a .0)) (now (a .1 .0)) (a .1 .1 .0) (length (now (a .1 .1 .1 .1 .0))) (length (now (a .1 .1 .1 .1 .1 .0))) r
 write-as-told κs a r s p =
-    let payload = now (a .1 .1 .1 .1 .1 .0) in
-    let out = now (a .1 .1 .1 .1 .1 .1 .0) in
-    subst (WriteSays (now (a .0)) (now (a .1 .0)) (a .1 .1 .0) (a .1 .1 .1 .0) (length payload) (length out)) (sym (p .0)) (write-answer-as-told (now (a .0)) (now (a .1 .0)) (a .1 .1 .0) (a .1 .1 .1 .0) payload out)
+    let payload = now (a .1 .1 .1 .1 .0) in
+    let out = now (a .1 .1 .1 .1 .1 .0) in
+    subst (WriteSays (now (a .0)) (now (a .1 .0)) (a .1 .1 .0) (length payload) (length out)) (sym (p .0)) (write-answer-as-told (now (a .0)) (now (a .1 .0)) (a .1 .1 .0) payload out)
 
 pub write-done : (κs : _) (a : _) (r : _) (s : _) → write.Post κs a r s
-    → Fit (now (a .0)) (now (a .1 .0)) (a .1 .1 .0) (a .1 .1 .1 .0) (length (now (a .1 .1 .1 .1 .1 .0))) (length (now (a .1 .1 .1 .1 .1 .1 .0))) → writeNumber r ≡ 0
-write-done κs a r s p f = ap writeNumber (p .0 ∙ fit-is-written (now (a .0)) (now (a .1 .0)) (a .1 .1 .0) (a .1 .1 .1 .0) (now (a .1 .1 .1 .1 .1 .0)) (now (a .1 .1 .1 .1 .1 .1 .0)) f)
+    → Fit (now (a .0)) (now (a .1 .0)) (a .1 .1 .0) (length (now (a .1 .1 .1 .1 .0))) (length (now (a .1 .1 .1 .1 .1 .0))) → writeNumber r ≡ 0
+write-done κs a r s p f = ap writeNumber (p .0 ∙ fit-is-written (now (a .0)) (now (a .1 .0)) (a .1 .1 .0) (now (a .1 .1 .1 .1 .0)) (now (a .1 .1 .1 .1 .1 .0)) f)
 
 pub read-start-as-told : (κs : _) (a : _) (r : _) (s : _) → read-start.Post κs a r s → StartSays (now (a .0)) (now (a .1 .0)) (r .answer)
 read-start-as-told κs a r s p = subst (StartSays (now (a .0)) (now (a .1 .0))) (sym (ap (λ (x : ReadStarted). x .answer) p)) (start-says (now (a .0)) (now (a .1 .0)))
@@ -293,7 +333,7 @@ pub read-start-refused-zeros : (κs : _) (a : _) (r : _) (s : _) → read-start.
     → r .reader ≡ record {
       enc = record { words = replicate 60 0; rounds = 0 };
       chk = record { words = replicate 60 0; rounds = 0 };
-      progress = record { next = 0; count = 0; release = 0 };
+      progress = record { next = 0; count = 0; release = 0; edition = 0; last = replicate 16 0 };
     }
 read-start-refused-zeros κs a r s p e =
     ap (λ (x : ReadStarted). x .reader) p ∙ refused-start-gives-zeros (now (a .0)) (now (a .1 .0)) (ap (λ (x : ReadStarted). keyNumber (x .answer)) (sym p) ∙ e)
@@ -303,7 +343,7 @@ read-turn-as-told κs a r s p =
     subst (StopSays (a .0) (now (a .1 .0)) (a .1 .1 .0) (now (a .1 .1 .1 .0))) (sym (ap (λ (x : Turn × List ℕ). x .0 .stop) p)) (turn-stop-as-told (a .0) (now (a .1 .0)) (a .1 .1 .0) (now (a .1 .1 .1 .0)))
 
 pub read-turn-done : (κs : _) (a : _) (r : _) (s : _) → read-turn.Post κs a r s → Fair (now (a .1 .0)) (a .1 .1 .0) (now (a .1 .1 .1 .0))
-    → AllMet (keysOf (a .0)) one (standing (a .0 .progress)) (handled (now (a .1 .0)) (a .1 .1 .0)) (given (now (a .1 .0)) (a .1 .1 .0)) → stopNumber (r .stop) ≡ 0
+    → AllMet (keysOf (a .0)) either (a .0 .progress) (handled (now (a .1 .0)) (a .1 .1 .0)) (given (now (a .1 .0)) (a .1 .1 .0)) → stopNumber (r .stop) ≡ 0
 read-turn-done κs a r s p f m = ap (λ (x : Turn × List ℕ). stopNumber (x .0 .stop)) p ∙ ap stopNumber (turn-ends (a .0) (now (a .1 .0)) (a .1 .1 .0) (now (a .1 .1 .1 .0)) f m)
 
 pub read-complete-as-told : (κs : _) (a : _) (r : _) (s : _) → read-complete.Post κs a r s → CompletionSays (a .0 .progress) r
@@ -315,13 +355,17 @@ read-complete-done κs a r s p f e = ap completionNumber (p ∙ completed (a .0)
 -- ---- demands 2 and 3 for the calls: what `write` wrote, offered to `read_turn`
 
 module _ (κs : _) (a : _) (r : _) (s : _) (p : write.Post κs a r s)
-    (fit : Fit (now (a .0)) (now (a .1 .0)) (a .1 .1 .0) (a .1 .1 .1 .0) (length (now (a .1 .1 .1 .1 .1 .0))) (length (now (a .1 .1 .1 .1 .1 .1 .0))))
-    (bytes : Bytes (now (a .1 .1 .1 .1 .1 .0))) (release : a .1 .1 .1 .1 .0 < 4294967296) where
-  wrote : Wrote (now (a .0)) (now (a .1 .0)) (a .1 .1 .0) (a .1 .1 .1 .0) (a .1 .1 .1 .1 .0) (now (a .1 .1 .1 .1 .1 .0)) (take 512 (now (s .1 .1 .1 .1 .1 .1 .0)))
+    (fit : Fit (now (a .0)) (now (a .1 .0)) (a .1 .1 .0) (length (now (a .1 .1 .1 .1 .0))) (length (now (a .1 .1 .1 .1 .1 .0))))
+    (before : Octets 16 (a .1 .1 .1 .0)) (bytes : Bytes (now (a .1 .1 .1 .1 .0))) (release : a .1 .1 .0 .release < 4294967296) where
+  abbrev written : List ℕ
+  written = take 512 (now (s .1 .1 .1 .1 .1 .0))
+
+  wrote : Wrote (now (a .0)) (now (a .1 .0)) (a .1 .1 .0) (a .1 .1 .1 .0) (now (a .1 .1 .1 .1 .0)) (take 512 (now (s .1 .1 .1 .1 .1 .0)))
   wrote = record {
-    out = now (a .1 .1 .1 .1 .1 .1 .0);
-    answer = fit-is-written (now (a .0)) (now (a .1 .0)) (a .1 .1 .0) (a .1 .1 .1 .0) (now (a .1 .1 .1 .1 .1 .0)) (now (a .1 .1 .1 .1 .1 .1 .0)) fit;
-    block = ap (take 512) (p .1 ∙ ap (λ (x : WriteAnswer). writeOutput x (now (a .0)) (now (a .1 .0)) (a .1 .1 .0) (a .1 .1 .1 .0) (a .1 .1 .1 .1 .0) (now (a .1 .1 .1 .1 .1 .0)) (now (a .1 .1 .1 .1 .1 .1 .0))) (p .0));
+    out = now (a .1 .1 .1 .1 .1 .0);
+    answer = fit-is-written (now (a .0)) (now (a .1 .0)) (a .1 .1 .0) (now (a .1 .1 .1 .1 .0)) (now (a .1 .1 .1 .1 .1 .0)) fit;
+    block = ap (take 512) (p .1 ∙ ap (λ (x : WriteAnswer). writeOutput x (now (a .0)) (now (a .1 .0)) (a .1 .1 .0) (a .1 .1 .1 .0) (now (a .1 .1 .1 .1 .0)) (now (a .1 .1 .1 .1 .1 .0))) (p .0));
+    previous-octets = before;
     payload-bytes = bytes;
     release-fits = release;
   }
@@ -329,29 +373,54 @@ module _ (κs : _) (a : _) (r : _) (s : _) (p : write.Post κs a r s)
   -- a turn of a reader under the same keys
   module _ (κs′ : _) (a′ : _) (r′ : _) (s′ : _) (q : read-turn.Post κs′ a′ r′ s′) (st : Progress) (reader : a′ .0 ≡ readerOf (now (a .0)) (now (a .1 .0)) st) where
     -- that waits for this block accepts it, and hands out its payload and zero fill
-    pub write-then-read : 0 < a′ .1 .1 .0 → a′ .1 .1 .0 ≤ 128 → 480 ≤ length (now (a′ .1 .1 .1 .0)) → now (a′ .1 .0) ≡ take 512 (now (s .1 .1 .1 .1 .1 .1 .0)) → Waits st (a .1 .1 .0) (a .1 .1 .1 .0) (a .1 .1 .1 .1 .0)
-        → (r′ .accepted ≡ 1) × (r′ .bytes ≡ length (now (a .1 .1 .1 .1 .1 .0))) × (r′ .stop ≡ End)
-        × (now (s′ .1 .1 .1 .0) ≡ over (filled (now (a .1 .1 .1 .1 .1 .0))) (now (a′ .1 .1 .1 .0)))
+    pub write-then-read : 0 < a′ .1 .1 .0 → a′ .1 .1 .0 ≤ 128 → 480 ≤ length (now (a′ .1 .1 .1 .0)) → now (a′ .1 .0) ≡ written → Waits st (a .1 .1 .0) (a .1 .1 .1 .0)
+        → (r′ .accepted ≡ 1) × (r′ .bytes ≡ length (now (a .1 .1 .1 .1 .0))) × (r′ .stop ≡ End)
+        × (now (s′ .1 .1 .1 .0) ≡ over (filled (now (a .1 .1 .1 .1 .0))) (now (a′ .1 .1 .1 .0)))
     write-then-read low high room lent waits =
-        let e = q ∙ ap₂ (λ (x : Reader) (b : List ℕ). turnOf x b (a′ .1 .1 .0) (now (a′ .1 .1 .1 .0))) reader lent ∙ (written-is-read (now (a .0)) (now (a .1 .0)) (a .1 .1 .0) (a .1 .1 .1 .0) (a .1 .1 .1 .1 .0) (now (a .1 .1 .1 .1 .1 .0)) (take 512 (now (s .1 .1 .1 .1 .1 .1 .0))) wrote st waits (a′ .1 .1 .0) (now (a′ .1 .1 .1 .0)) low high room) in (
+        let e = q ∙ ap₂ (λ (x : Reader) (b : List ℕ). turnOf x b (a′ .1 .1 .0) (now (a′ .1 .1 .1 .0))) reader lent ∙ (written-is-read (now (a .0)) (now (a .1 .0)) (a .1 .1 .0) (a .1 .1 .1 .0) (now (a .1 .1 .1 .1 .0)) written wrote st waits (a′ .1 .1 .0) (now (a′ .1 .1 .1 .0)) low high room) in (
           ap (λ (x : Turn × List ℕ). x .0 .accepted) e,
           ap (λ (x : Turn × List ℕ). x .0 .bytes) e,
           ap (λ (x : Turn × List ℕ). x .0 .stop) e,
           ap (λ (x : Turn × List ℕ). x .1) e,
         )
 
-    -- that has the block damaged inside one 16-byte piece, or inside its check, at any place of what it handles accepts no more than the
-    -- blocks before it; where it accepts those, it stops there by 14, or by 16 where no block may follow them; and nothing of it is handed out
-    pub damage-is-refused : (i : ℕ) (d : List ℕ) → Octets 512 d → SameOutside i d (take 512 (now (s .1 .1 .1 .1 .1 .1 .0))) → (d ≡ take 512 (now (s .1 .1 .1 .1 .1 .1 .0)) → ⊥)
-        → Bytes (now (a′ .1 .0)) → Fair (now (a′ .1 .0)) (a′ .1 .1 .0) (now (a′ .1 .1 .1 .0))
-        → (place : ℕ) → place < handled (now (a′ .1 .0)) (a′ .1 .1 .0) → getD (given (now (a′ .1 .0)) (a′ .1 .1 .0)) place [] ≡ d
-        → (r′ .accepted ≤ place)
+    -- what a turn does with a block at a place that it refuses by 16 or 14
+    abbrev EndsAt : ℕ → Type 0
+    EndsAt place =
+        (r′ .accepted ≤ place)
         × (r′ .accepted ≡ place → r′ .stop ≡ At place (choose (closed (r′ .reader .progress)) AfterLast CheckWrong))
         × (drop (480 * place) (now (s′ .1 .1 .1 .0)) ≡ drop (480 * place) (now (a′ .1 .1 .1 .0)))
-    damage-is-refused i d octets same differ lent fair place below at =
+
+    ends-at : (place : ℕ) (t : Turn × List ℕ) → (r′, now (s′ .1 .1 .1 .0)) ≡ t
+        → (t .0 .accepted ≤ place) × (t .0 .accepted ≡ place → t .0 .stop ≡ At place (choose (closed (t .0 .reader .progress)) AfterLast CheckWrong)) × (drop (480 * place) (t .1) ≡ drop (480 * place) (now (a′ .1 .1 .1 .0)))
+        → EndsAt place
+    ends-at place t e x =
         subst
         (λ (t : Turn × List ℕ). (t .0 .accepted ≤ place) × (t .0 .accepted ≡ place → t .0 .stop ≡ At place (choose (closed (t .0 .reader .progress)) AfterLast CheckWrong))
         × (drop (480 * place) (t .1) ≡ drop (480 * place) (now (a′ .1 .1 .1 .0))))
-        (sym (q ∙ ap (λ (x : Reader). turnOf x (now (a′ .1 .0)) (a′ .1 .1 .0) (now (a′ .1 .1 .1 .0))) reader))
-        (damaged-ends-a-turn (now (a .0)) (now (a .1 .0)) (a .1 .1 .0) (a .1 .1 .1 .0) (a .1 .1 .1 .1 .0) (now (a .1 .1 .1 .1 .1 .0)) (take 512 (now (s .1 .1 .1 .1 .1 .1 .0))) wrote i d octets same differ st
-        (now (a′ .1 .0)) (a′ .1 .1 .0) (now (a′ .1 .1 .1 .0)) lent fair place below at)
+        (sym e) x
+
+    -- that has the block damaged inside one 16-byte piece, or inside its check, at a place of what it handles, where its last check is the one
+    -- that the block was sealed on and the block still selects its edition, accepts no more than the blocks before it; where it accepts those,
+    -- it stops there by 14, or by 16 where no block may follow them; and nothing of it is handed out
+    pub damage-is-refused : (i : ℕ) (d : List ℕ) → Octets 512 d → SameOutside i d written → (d ≡ written → ⊥)
+        → Bytes (now (a′ .1 .0)) → Fair (now (a′ .1 .0)) (a′ .1 .1 .0) (now (a′ .1 .1 .1 .0))
+        → (place : ℕ) → place < handled (now (a′ .1 .0)) (a′ .1 .1 .0) → getD (given (now (a′ .1 .0)) (a′ .1 .1 .0)) place [] ≡ d
+        → SealedOn (a .1 .1 .0) (a .1 .1 .1 .0) (moved st (take place (given (now (a′ .1 .0)) (a′ .1 .1 .0))) .last) → selected (headOf d .reserved) ≡ a .1 .1 .0 .edition
+        → EndsAt place
+    damage-is-refused i d octets same differ lent fair place below at on selects =
+        ends-at place _ (q ∙ ap (λ (x : Reader). turnOf x (now (a′ .1 .0)) (a′ .1 .1 .0) (now (a′ .1 .1 .1 .0))) reader)
+        (damaged-ends-a-turn (now (a .0)) (now (a .1 .0)) (a .1 .1 .0) (a .1 .1 .1 .0) (now (a .1 .1 .1 .1 .0)) written wrote i d octets same differ st
+        (now (a′ .1 .0)) (a′ .1 .1 .0) (now (a′ .1 .1 .1 .0)) lent fair place below at on selects)
+
+    -- that has the block, sealed in edition 2, at a place where its last check is another than the one that the block was sealed on does the same
+    pub another-build-is-refused : a .1 .1 .0 .edition ≡ 2
+        → Bytes (now (a′ .1 .0)) → Fair (now (a′ .1 .0)) (a′ .1 .1 .0) (now (a′ .1 .1 .1 .0))
+        → (place : ℕ) → place < handled (now (a′ .1 .0)) (a′ .1 .1 .0) → getD (given (now (a′ .1 .0)) (a′ .1 .1 .0)) place [] ≡ written
+        → Octets 16 (moved st (take place (given (now (a′ .1 .0)) (a′ .1 .1 .0))) .last)
+        → (moved st (take place (given (now (a′ .1 .0)) (a′ .1 .1 .0))) .last ≡ lastFor (a .1 .1 .0 .number) (a .1 .1 .1 .0) → ⊥)
+        → EndsAt place
+    another-build-is-refused two lent fair place below at octets differs =
+        ends-at place _ (q ∙ ap (λ (x : Reader). turnOf x (now (a′ .1 .0)) (a′ .1 .1 .0) (now (a′ .1 .1 .1 .0))) reader)
+        (other-build-ends-a-turn (now (a .0)) (now (a .1 .0)) (a .1 .1 .0) (a .1 .1 .1 .0) (now (a .1 .1 .1 .1 .0)) written wrote two st
+        (now (a′ .1 .0)) (a′ .1 .1 .0) (now (a′ .1 .1 .1 .0)) lent fair place below at octets differs)

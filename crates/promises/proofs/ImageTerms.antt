@@ -9,6 +9,7 @@ use Rattle.octets.specs.Blocks.{BlockCipher}
 use Rattle.schedule.specs.declared.KeyAnswer.{KeyAnswer}
 use Rattle.schedule.specs.declared.KeyAnswer.the-variants.{Taken, KeyLength}
 use Rattle.layout.specs.Layout.{headOf}
+use Rattle.header.specs.Marks.{isEdition}
 use Rattle.header.specs.Rules.{closed, lengthFits}
 use Rattle.layout.specs.declared.Head.{Head}
 use Rattle.header.specs.declared.Progress.{Progress}
@@ -16,13 +17,14 @@ use Rattle.header.specs.declared.Reason.{Reason}
 use Rattle.header.specs.declared.Reason.the-variants.{AfterLast, CheckWrong, Count, Number, OtherCount, OtherRelease, Length, Reserved, FillNotZero}
 use Rattle.header.specs.declared.Verdict.{Verdict}
 use Rattle.header.specs.declared.Verdict.the-variants.{Accepted, Refused}
-use Rattle.format.specs.Edition.{Edition, one, noCheck}
+use Rattle.format.specs.Edition.{Edition, noCheck, tailOf}
 use Rattle.format.specs.Sealed.{filled, blockFor, opened, checks, fillZero}
-use Rattle.format.specs.Judge.{Keys, Standing, standing, taken}
+use Rattle.format.specs.Judge.{Keys, Rule, either, taken}
 use Rattle.turns.specs.Turn.{Reading, cut, handled, readingBy}
-use Rattle.image.specs.Calls.{writeAnswer, writeOutput, startOf, keysOf, turnOf}
+use Rattle.image.specs.Calls.{writeAnswer, writeOutput, lastFor, startOf, keysOf, turnOf}
 use Rattle.image.specs.declared.WriteAnswer.{WriteAnswer}
-use Rattle.image.specs.declared.WriteAnswer.the-variants.{Written, WriteKey, WriteCount, WriteNumber, WriteLength, WriteRoom}
+use Rattle.image.specs.declared.WriteAnswer.the-variants.{Written, WriteKey, WriteCount, WriteNumber, WriteLength, WriteEdition, WriteRoom}
+use Rattle.image.specs.declared.Numbers.{Numbers}
 use Rattle.image.specs.declared.Reader.{Reader}
 use Rattle.turns.specs.declared.Stop.{Stop}
 use Rattle.turns.specs.declared.Stop.the-variants.{End, Asked, Lent, Room, At}
@@ -52,20 +54,20 @@ pub record Right (mark : ℕ) (s : Progress) (h : Head) : Type 0 where
   pub marked : h .reserved ≡ mark
 
 -- a block meets every test
-pub record Met (k : Keys) (ed : Edition) (s : Standing) (b : List ℕ) : Type 0 where
+pub record Met (k : Keys) (ed : Edition) (s : Progress) (b : List ℕ) : Type 0 where
   pub usable-keys : k .usable ≡ true
   pub check-right : checks (k .mac) (ed .tail (s .last)) b ≡ true
-  pub head-right : Right (ed .mark) (s .progress) (headOf b)
+  pub head-right : Right (ed .mark) s (headOf b)
   pub fill-zero : fillZero (k .enc) b ≡ true
 
 -- the table's row for a reason: when it is given, and that the value held is the one found
-abbrev pub Row : Keys → Edition → Standing → List ℕ → Reason → Type 0
-Row k ed s b AfterLast = (0 < s .progress .next) × (s .progress .count ≤ s .progress .next)
+abbrev pub Row : Keys → Edition → Progress → List ℕ → Reason → Type 0
+Row k ed s b AfterLast = (0 < s .next) × (s .count ≤ s .next)
 Row k ed s b CheckWrong = (k .usable && checks (k .mac) (ed .tail (s .last)) b) ≡ false
 Row k ed s b (Count v) = (v ≡ headOf b .count) × (0 < v → v ≤ 65535 → ⊥)
-Row k ed s b (Number v) = (v ≡ headOf b .number) × (v ≡ s .progress .next → ⊥)
-Row k ed s b (OtherCount v) = (v ≡ headOf b .count) × (0 < s .progress .next) × (v ≡ s .progress .count → ⊥)
-Row k ed s b (OtherRelease v) = (v ≡ headOf b .release) × (0 < s .progress .next) × (v ≡ s .progress .release → ⊥)
+Row k ed s b (Number v) = (v ≡ headOf b .number) × (v ≡ s .next → ⊥)
+Row k ed s b (OtherCount v) = (v ≡ headOf b .count) × (0 < s .next) × (v ≡ s .count → ⊥)
+Row k ed s b (OtherRelease v) = (v ≡ headOf b .release) × (0 < s .next) × (v ≡ s .release → ⊥)
 Row k ed s b (Length v) = (v ≡ headOf b .len) × (lengthFits (headOf b .number) (headOf b .count) v ≡ false)
 Row k ed s b (Reserved v) = (v ≡ headOf b .reserved) × (v ≡ ed .mark → ⊥)
 Row k ed s b FillNotZero = fillZero (k .enc) b ≡ false
@@ -83,7 +85,7 @@ rank (Reserved v) = 7
 rank FillNotZero = 8
 
 -- what each verdict says of a block: accepted, that it meets every test; refused, that the row for the reason holds, and no row asked before it
-abbrev pub Says : Keys → Edition → Standing → List ℕ → Verdict → Type 0
+abbrev pub Says : Keys → Edition → Progress → List ℕ → Verdict → Type 0
 Says k ed s b Accepted = Met k ed s b
 Says k ed s b (Refused r) = Row k ed s b r × ((q : Reason) → rank q < rank r → Row k ed s b q → ⊥)
 
@@ -91,11 +93,11 @@ Says k ed s b (Refused r) = Row k ed s b r × ((q : Reason) → rank q < rank r 
 abbrev pub unchecked : Progress → Verdict
 unchecked s = choose (closed s) (Refused AfterLast) (Refused CheckWrong)
 
--- the first n blocks meet every test, each where the reader stands after those before it
-abbrev pub AllMet : Keys → Edition → Standing → ℕ → List (List ℕ) → Type 0
-AllMet k ed s zero bs = Unit {0}
-AllMet k ed s (suc n) [] = ⊥
-AllMet k ed s (suc n) (b ∷ bs) = Met k ed s b × AllMet k ed (taken s b) n bs
+-- the first n blocks meet every test, each where the reader stands after those before it, of the edition that its rule holds it to
+abbrev pub AllMet : Keys → Rule → Progress → ℕ → List (List ℕ) → Type 0
+AllMet k rule s zero bs = Unit {0}
+AllMet k rule s (suc n) [] = ⊥
+AllMet k rule s (suc n) (b ∷ bs) = Met k (rule s (headOf b .reserved)) s b × AllMet k rule (taken s b) n bs
 
 -- ---- blocks and what they hold
 
@@ -135,38 +137,47 @@ partsIn (b ∷ bs) out = take (headOf b .len) out ++ partsIn bs (drop 480 out)
 -- ---- the writer
 
 -- what the writer asks
-pub record Fit (ekey ckey : List ℕ) (number count len room : ℕ) : Type 0 where
+pub record Fit (ekey ckey : List ℕ) (n : Numbers) (len room : ℕ) : Type 0 where
   pub ekey-taken : KeyTaken ekey
   pub ckey-taken : KeyTaken ckey
-  pub count-low : 0 < count
-  pub count-high : count ≤ 65535
-  pub below : number < count
-  pub len-fits : lengthFits number count len ≡ true
+  pub count-low : 0 < n .count
+  pub count-high : n .count ≤ 65535
+  pub below : n .number < n .count
+  pub len-fits : lengthFits (n .number) (n .count) len ≡ true
+  pub known : isEdition (n .edition) ≡ true
   pub roomy : 512 ≤ room
 
 -- what each of its answers says: the first test that fails is the one told
-abbrev pub WriteSays : (ekey ckey : List ℕ) (number count len room : ℕ) → WriteAnswer → Type 0
-WriteSays ekey ckey number count len room Written = Fit ekey ckey number count len room
-WriteSays ekey ckey number count len room WriteKey = KeyTaken ekey → KeyTaken ckey → ⊥
-WriteSays ekey ckey number count len room WriteCount = KeyTaken ekey × KeyTaken ckey × (0 < count → count ≤ 65535 → ⊥)
-WriteSays ekey ckey number count len room WriteNumber = KeyTaken ekey × KeyTaken ckey × (0 < count) × (count ≤ 65535) × (count ≤ number)
-WriteSays ekey ckey number count len room WriteLength = KeyTaken ekey × KeyTaken ckey × (count ≤ 65535) × (number < count) × (lengthFits number count len ≡ false)
-WriteSays ekey ckey number count len room WriteRoom = KeyTaken ekey × KeyTaken ckey × (count ≤ 65535) × (number < count) × (lengthFits number count len ≡ true) × (room < 512)
+abbrev pub WriteSays : (ekey ckey : List ℕ) → Numbers → (len room : ℕ) → WriteAnswer → Type 0
+WriteSays ekey ckey n len room Written = Fit ekey ckey n len room
+WriteSays ekey ckey n len room WriteKey = KeyTaken ekey → KeyTaken ckey → ⊥
+WriteSays ekey ckey n len room WriteCount = KeyTaken ekey × KeyTaken ckey × (0 < n .count → n .count ≤ 65535 → ⊥)
+WriteSays ekey ckey n len room WriteNumber = KeyTaken ekey × KeyTaken ckey × (0 < n .count) × (n .count ≤ 65535) × (n .count ≤ n .number)
+WriteSays ekey ckey n len room WriteLength = KeyTaken ekey × KeyTaken ckey × (n .count ≤ 65535) × (n .number < n .count) × (lengthFits (n .number) (n .count) len ≡ false)
+WriteSays ekey ckey n len room WriteEdition =
+    KeyTaken ekey × KeyTaken ckey × (n .count ≤ 65535) × (n .number < n .count) × (lengthFits (n .number) (n .count) len ≡ true) × (n .edition ≡ 1 → ⊥) × (n .edition ≡ 2 → ⊥)
+WriteSays ekey ckey n len room WriteRoom =
+    KeyTaken ekey × KeyTaken ckey × (n .count ≤ 65535) × (n .number < n .count) × (lengthFits (n .number) (n .count) len ≡ true) × (isEdition (n .edition) ≡ true) × (room < 512)
 
 -- the output after the writer's call
-abbrev pub afterWrite : (ekey ckey : List ℕ) (number count release : ℕ) (payload out : List ℕ) → List ℕ
-afterWrite ekey ckey number count release payload out =
-    writeOutput (writeAnswer ekey ckey number count payload out) ekey ckey number count release payload out
+abbrev pub afterWrite : (ekey ckey : List ℕ) → Numbers → (previous payload out : List ℕ) → List ℕ
+afterWrite ekey ckey n previous payload out =
+    writeOutput (writeAnswer ekey ckey n payload out) ekey ckey n previous payload out
 
 -- b is a block that the writer wrote of these arguments, under both keys, into some output
-pub record Wrote (ekey ckey : List ℕ) (number count release : ℕ) (payload b : List ℕ) : Type 0 where
+pub record Wrote (ekey ckey : List ℕ) (n : Numbers) (previous payload b : List ℕ) : Type 0 where
   pub out : List ℕ
-  pub answer : writeAnswer ekey ckey number count payload out ≡ Written
-  pub block : b ≡ take 512 (afterWrite ekey ckey number count release payload out)
+  pub answer : writeAnswer ekey ckey n payload out ≡ Written
+  pub block : b ≡ take 512 (afterWrite ekey ckey n previous payload out)
+  pub previous-octets : Octets 16 previous
   pub payload-bytes : Bytes payload
-  pub release-fits : release < 4294967296
+  pub release-fits : n .release < 4294967296
 
--- how many blocks a payload takes: one for every 480 bytes begun, and one where there are none
+-- the last check of a reader is the one that a block with these numbers was sealed on, as far as its edition asks for it
+abbrev pub SealedOn : Numbers → (previous last : List ℕ) → Type 0
+SealedOn n previous last = tailOf (n .edition) last ≡ tailOf (n .edition) (lastFor (n .number) previous)
+
+-- how many blocks a payload takes: one for every 480 bytes fresh, and one where there are none
 abbrev pub blocks : List ℕ → ℕ
 blocks p = max 1 ((length p + 479) / 480)
 
@@ -190,14 +201,17 @@ inState r s = record { enc = r .enc; chk = r .chk; progress = s }
 abbrev pub readerOf : (ekey ckey : List ℕ) → Progress → Reader
 readerOf ekey ckey s = inState (startOf ekey ckey .reader) s
 
--- a state that waits for this block: the number is the one expected, and count and release are the fixed ones, if a block has been accepted
-pub record Waits (s : Progress) (number count release : ℕ) : Type 0 where
-  pub next-number : number ≡ s .next
-  pub same-count : 0 < s .next → count ≡ s .count
-  pub same-release : 0 < s .next → release ≡ s .release
+-- a state that waits for this block: the number is the one expected, its last check is the one that the block was sealed on, and count,
+-- release and edition are the fixed ones, if a block has been accepted
+pub record Waits (s : Progress) (n : Numbers) (previous : List ℕ) : Type 0 where
+  pub next-number : n .number ≡ s .next
+  pub same-count : 0 < s .next → n .count ≡ s .count
+  pub same-release : 0 < s .next → n .release ≡ s .release
+  pub same-edition : 0 < s .next → n .edition ≡ s .edition
+  pub sealed-on : SealedOn n previous (s .last)
 
 -- where a reader stands after these blocks were accepted
-abbrev pub moved : Standing → List (List ℕ) → Standing
+abbrev pub moved : Progress → List (List ℕ) → Progress
 moved s [] = s
 moved s (b ∷ bs) = moved (taken s b) bs
 
@@ -232,10 +246,11 @@ abbrev pub StopSays : Reader → (lent : List ℕ) (asked : ℕ) (out : List ℕ
 StopSays r lent asked out Asked = 0 < asked → asked ≤ 128 → ⊥
 StopSays r lent asked out Lent = (0 < asked) × (asked ≤ 128) × (length lent % 512 ≡ 0 → ⊥)
 StopSays r lent asked out Room = (0 < asked) × (asked ≤ 128) × (length lent % 512 ≡ 0) × (length out < 480 * handled lent asked)
-StopSays r lent asked out End = Fair lent asked out × AllMet (keysOf r) one (standing (r .progress)) (handled lent asked) (given lent asked)
+StopSays r lent asked out End = Fair lent asked out × AllMet (keysOf r) either (r .progress) (handled lent asked) (given lent asked)
 StopSays r lent asked out (At place reason) =
-    Fair lent asked out × (place < handled lent asked) × AllMet (keysOf r) one (standing (r .progress)) place (given lent asked)
-    × Says (keysOf r) one (moved (standing (r .progress)) (take place (given lent asked))) (getD (given lent asked) place []) (Refused reason)
+    Fair lent asked out × (place < handled lent asked) × AllMet (keysOf r) either (r .progress) place (given lent asked)
+    × Says (keysOf r) (either (moved (r .progress) (take place (given lent asked))) (headOf (getD (given lent asked) place []) .reserved)) (moved (r .progress) (take place (given lent asked))) (getD (given lent asked) place [])
+    (Refused reason)
 
 -- refused as a whole
 abbrev pub Whole : Stop → Type 0
@@ -317,7 +332,7 @@ laterBy n Room = Room
 
 abbrev pub andThen : Reading → Reading → Reading
 andThen a b = record {
-  standing = b .standing;
+  progress = b .progress;
   accepted = a .accepted + b .accepted;
   bytes = a .bytes + b .bytes;
   stop = laterBy (a .accepted) (b .stop);

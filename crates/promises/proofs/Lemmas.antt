@@ -3,6 +3,7 @@ pub mod ImageJudge
 pub mod ImageTurn
 pub mod ImageSound
 pub mod ImageWhole
+pub mod ImageBoth
 pub mod ImageOne
 pub mod ImageCalls
 pub mod ImageRead

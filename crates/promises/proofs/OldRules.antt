@@ -10,6 +10,7 @@ use lib.Dec.{eqb, ltb, leb}
 use lib.ListN.{drop}
 use Rattle.octets.specs.Octets.{choose}
 use Rattle.layout.specs.Layout.{checkAt, headOf}
+use Rattle.header.specs.Marks.{selected}
 use Rattle.header.specs.Rules.{firstOf, done, closed, countFits, lengthFits, headTests, reasonNumber, reasonValue}
 use Rattle.layout.specs.declared.Head.{Head}
 use Rattle.header.specs.declared.Progress.{Progress}
@@ -20,7 +21,7 @@ use Rattle.header.specs.declared.Verdict.the-variants.{Accepted, Refused}
 use Rattle.header.proofs.Laws.{number-below}
 use Rattle.format.specs.Edition.{Edition, noCheck}
 use Rattle.format.specs.Sealed.{checks, fillZero}
-use Rattle.format.specs.Judge.{Keys, Standing, tests, judge, taken, ofEdition}
+use Rattle.format.specs.Judge.{Keys, tests, judge, taken, ofEdition}
 use Rattle.turns.specs.Turn.{Reading, readBlocks, later, onward}
 use Rattle.turns.specs.declared.Stop.{Stop}
 use Rattle.turns.specs.declared.Stop.the-variants.{End, Asked, Lent, Room, At}
@@ -50,20 +51,22 @@ pub record OldProgress : Type 0 where
   pub count : ℕ
   pub release : ℕ
 
+-- and what stands beside it today: the edition of the last accepted block and its check. No old rule asks for the edition
 pub record OldStanding : Type 0 where
   pub progress : OldProgress
+  pub edition : ℕ
   pub last : List ℕ
 
 -- the tests of a block: 16, 14, 7, 8, 9, 10, then 11, then 12, 13, 15; whether 16 holds and whether count and release are fixed are given
-abbrev pub upTo10 : (over fixed : Bool) → Keys → Edition → Standing → List ℕ → List (Bool × Answer)
+abbrev pub upTo10 : (over fixed : Bool) → Keys → Edition → Progress → List ℕ → List (Bool × Answer)
 upTo10 over fixed k ed s b =
     let h = headOf b in
     (over, (16, []))
     ∷ (not (k .usable && checks (k .mac) (ed .tail (s .last)) b), (14, []))
     ∷ (not (countFits (h .count)), (7, h .count ∷ []))
-    ∷ (not (eqb (h .number) (s .progress .next)), (8, h .number ∷ []))
-    ∷ (fixed && not (eqb (h .count) (s .progress .count)), (9, h .count ∷ []))
-    ∷ (fixed && not (eqb (h .release) (s .progress .release)), (10, h .release ∷ []))
+    ∷ (not (eqb (h .number) (s .next)), (8, h .number ∷ []))
+    ∷ (fixed && not (eqb (h .count) (s .count)), (9, h .count ∷ []))
+    ∷ (fixed && not (eqb (h .release) (s .release)), (10, h .release ∷ []))
     ∷ []
 
 abbrev pub eleven : List ℕ → Bool × Answer
@@ -78,8 +81,8 @@ from12 k ed b =
     ∷ []
 
 -- an old state without its flag
-abbrev pub today : OldStanding → Standing
-today o = record { progress = record { next = o .progress .next; count = o .progress .count; release = o .progress .release }; last = o .last }
+abbrev pub today : OldStanding → Progress
+today o = record { next = o .progress .next; count = o .progress .count; release = o .progress .release; edition = o .edition; last = o .last }
 
 abbrev pub oldDone : OldProgress → Bool
 oldDone s = s .fixed && eqb (s .next) (s .count)
@@ -91,11 +94,12 @@ abbrev pub oldAnswer : Keys → Edition → OldStanding → List ℕ → Answer
 oldAnswer k ed o b = firstTold (oldTests k ed o b)
 
 abbrev pub oldFresh : OldStanding
-oldFresh = record { progress = record { next = 0; fixed = false; count = 0; release = 0 }; last = noCheck }
+oldFresh = record { progress = record { next = 0; fixed = false; count = 0; release = 0 }; edition = 0; last = noCheck }
 
 abbrev pub oldTaken : OldStanding → List ℕ → OldStanding
 oldTaken o b = record {
   progress = record { next = o .progress .next + 1; fixed = true; count = headOf b .count; release = headOf b .release };
+  edition = selected (headOf b .reserved);
   last = drop checkAt b;
 }
 
@@ -105,24 +109,24 @@ oldAfter k ed o b = choose (eqb (oldAnswer k ed o b .0) 0) (oldTaken o b) o
 
 -- how far blocks were taken: where the reader stands after them, how many were accepted, and the answer of the one that was refused, if any
 pub record OldReading : Type 0 where
-  pub standing : OldStanding
+  pub progress : OldStanding
   pub accepted : ℕ
   pub answer : Answer
 
 abbrev pub oldRead : Keys → Edition → OldStanding → List (List ℕ) → OldReading
-oldRead k ed o [] = record { standing = o; accepted = 0; answer = (0, []) }
+oldRead k ed o [] = record { progress = o; accepted = 0; answer = (0, []) }
 oldRead k ed o (b ∷ bs) =
     let t = oldRead k ed (oldTaken o b) bs in
-    choose (eqb (oldAnswer k ed o b .0) 0) (record { standing = t .standing; accepted = suc (t .accepted); answer = t .answer })
-    (record { standing = o; accepted = 0; answer = oldAnswer k ed o b })
+    choose (eqb (oldAnswer k ed o b .0) 0) (record { progress = t .progress; accepted = suc (t .accepted); answer = t .answer })
+    (record { progress = o; accepted = 0; answer = oldAnswer k ed o b })
 
 -- the readers that a start and turns made: a turn that is refused as a whole takes no block
 pub data OldFromStart (k : Keys) (ed : Edition) : OldStanding → Type 0 where
   started : OldFromStart k ed oldFresh
-  turn : {o : OldStanding} → OldFromStart k ed o → (bs : List (List ℕ)) → OldFromStart k ed (oldRead k ed o bs .standing)
+  turn : {o : OldStanding} → OldFromStart k ed o → (bs : List (List ℕ)) → OldFromStart k ed (oldRead k ed o bs .progress)
 
 -- the same by today's rules: after one block, and what stopped a run of blocks
-abbrev pub afterOne : Keys → Edition → Standing → List ℕ → Standing
+abbrev pub afterOne : Keys → Edition → Progress → List ℕ → Progress
 afterOne k ed s b = choose (eqb (told (judge k ed s b) .0) 0) (taken s b) s
 
 abbrev pub toldStop : Stop → Answer
@@ -177,12 +181,12 @@ eleven-holds-nowhere s h e16 e7 e8 e9 = lt-ltb (h .number) (h .count) (number-be
 
 module _ (k : Keys) (ed : Edition) where
   -- so today's tests with that for 11 in its old place give what they give without it
-  pub eleven-says-nothing : (s : Standing) (b : List ℕ)
-      → firstTold (upTo10 (closed (s .progress)) (ltb 0 (s .progress .next)) k ed s b ++ (eleven b ∷ from12 k ed b)) ≡ told (judge k ed s b)
+  pub eleven-says-nothing : (s : Progress) (b : List ℕ)
+      → firstTold (upTo10 (closed s) (ltb 0 (s .next)) k ed s b ++ (eleven b ∷ from12 k ed b)) ≡ told (judge k ed s b)
   unfolding judge headTests
   eleven-says-nothing s b =
       let h = headOf b in
-      let p = s .progress in
+      let p = s in
       without (upTo10 (closed p) (ltb 0 (p .next)) k ed s b) (eleven b) (from12 k ed b)
       (λ n. ap not (eleven-holds-nowhere p h (n .0) (not-false (countFits (h .count)) (n .1 .1 .0)) (eqb-true (h .number) (p .next) (not-false (eqb (h .number) (p .next)) (n .1 .1 .1 .0))) (n .1 .1 .1 .1 .0)))
       ∙ sym (told-first (tests k ed s b))
@@ -190,7 +194,7 @@ module _ (k : Keys) (ed : Edition) where
   -- ---- the reader answers as before
 
   -- the old 16 is today's in the states that can come up
-  same-end : (o : OldStanding) → CameUp o → oldDone (o .progress) ≡ closed (today o .progress)
+  same-end : (o : OldStanding) → CameUp o → oldDone (o .progress) ≡ closed (today o)
   unfolding closed
   same-end o w = end-at (o .progress .next) (o .progress .count) (o .progress .fixed) (w .fixed-after-one) (w .within)
     where
@@ -206,7 +210,7 @@ module _ (k : Keys) (ed : Edition) where
   pub answers-as-before : (o : OldStanding) (b : List ℕ) → CameUp o → oldAnswer k ed o b ≡ told (judge k ed (today o) b)
   answers-as-before o b w =
       ap (λ (x : Bool). firstTold (upTo10 x (o .progress .fixed) k ed (today o) b ++ (eleven b ∷ from12 k ed b))) (same-end o w)
-      ∙ ap (λ (x : Bool). firstTold (upTo10 (closed (today o .progress)) x k ed (today o) b ++ (eleven b ∷ from12 k ed b))) (w .fixed-after-one)
+      ∙ ap (λ (x : Bool). firstTold (upTo10 (closed (today o)) x k ed (today o) b ++ (eleven b ∷ from12 k ed b))) (w .fixed-after-one)
       ∙ eleven-says-nothing (today o) b
 
   -- the same next state,
@@ -218,7 +222,7 @@ module _ (k : Keys) (ed : Edition) where
       go false = refl
 
   -- and is complete as before
-  pub complete-as-before : (o : OldStanding) → CameUp o → oldDone (o .progress) ≡ done (today o .progress)
+  pub complete-as-before : (o : OldStanding) → CameUp o → oldDone (o .progress) ≡ done (today o)
   unfolding done
   complete-as-before o w = ap (λ (x : Bool). x && eqb (o .progress .next) (o .progress .count)) (w .fixed-after-one)
 
@@ -228,12 +232,12 @@ module _ (k : Keys) (ed : Edition) where
       let r = accepted-met k ed (today o) b e .head-right in
       record {
         fixed-after-one = sym (lt-ltb 0 (o .progress .next + 1) (omega arith));
-        within = omega (arith, r .expected, right-below (ed .mark) (today o .progress) (headOf b) r);
+        within = omega (arith, r .expected, right-below (ed .mark) (today o) (headOf b) r);
       }
 
   -- what a run of old and of today's rules have in common
   abbrev Same : OldReading → Reading → Type 0
-  Same t r = (today (t .standing) ≡ r .standing) × (t .accepted ≡ r .accepted) × (t .answer ≡ toldStop (r .stop))
+  Same t r = (today (t .progress) ≡ r .progress) × (t .accepted ≡ r .accepted) × (t .answer ≡ toldStop (r .stop))
 
   later-told : (y : Stop) → toldStop (later y) ≡ toldStop y
   later-told (At place reason) = refl
@@ -254,7 +258,7 @@ module _ (k : Keys) (ed : Edition) where
   refused-not-0 FillNotZero = refl
 
   -- so a run of blocks leaves the same state, accepts as many, and stops by the same number and value, in a state that can come up
-  run : (o : OldStanding) (bs : List (List ℕ)) → CameUp o → Same (oldRead k ed o bs) (readBlocks (ofEdition k ed) (today o) bs) × CameUp (oldRead k ed o bs .standing)
+  run : (o : OldStanding) (bs : List (List ℕ)) → CameUp o → Same (oldRead k ed o bs) (readBlocks (ofEdition k ed) (today o) bs) × CameUp (oldRead k ed o bs .progress)
   unfolding readBlocks
   run o [] w = ((refl, refl, refl), w)
   run o (b ∷ bs) w = go (judge k ed (today o) b) refl (run (oldTaken o b) bs)
@@ -266,17 +270,17 @@ module _ (k : Keys) (ed : Edition) where
       next = readBlocks (ofEdition k ed) (taken (today o) b) bs
 
       by : Answer → OldReading
-      by a = choose (eqb (a .0) 0) (record { standing = rest .standing; accepted = suc (rest .accepted); answer = rest .answer }) (record { standing = o; accepted = 0; answer = a })
+      by a = choose (eqb (a .0) 0) (record { progress = rest .progress; accepted = suc (rest .accepted); answer = rest .answer }) (record { progress = o; accepted = 0; answer = a })
 
-      go : (v : Verdict) → judge k ed (today o) b ≡ v → (CameUp (oldTaken o b) → Same rest next × CameUp (rest .standing))
-          → Same (by (oldAnswer k ed o b)) (onward (judge k ed (today o) b) (today o) (headOf b .len) (ofEdition k ed .plain b) next) × CameUp (by (oldAnswer k ed o b) .standing)
+      go : (v : Verdict) → judge k ed (today o) b ≡ v → (CameUp (oldTaken o b) → Same rest next × CameUp (rest .progress))
+          → Same (by (oldAnswer k ed o b)) (onward (judge k ed (today o) b) (today o) (headOf b .len) (ofEdition k ed .plain b) next) × CameUp (by (oldAnswer k ed o b) .progress)
       go Accepted e run-on =
           let i = run-on (taken-came-up o b e) in
           rw (answers-as-before o b w, e) ((i .0 .0, ap suc (i .0 .1), i .0 .2 ∙ sym (later-told (next .stop))), i .1)
       go (Refused r) e run-on = rw (answers-as-before o b w, e, refused-not-0 r) ((refl, refl, refl), w)
 
   pub reads-as-before : (o : OldStanding) (bs : List (List ℕ)) → CameUp o
-      → (today (oldRead k ed o bs .standing) ≡ readBlocks (ofEdition k ed) (today o) bs .standing)
+      → (today (oldRead k ed o bs .progress) ≡ readBlocks (ofEdition k ed) (today o) bs .progress)
       × (oldRead k ed o bs .accepted ≡ readBlocks (ofEdition k ed) (today o) bs .accepted)
       × (oldRead k ed o bs .answer ≡ toldStop (readBlocks (ofEdition k ed) (today o) bs .stop))
   reads-as-before o bs w = run o bs w .0

@@ -3,48 +3,54 @@
 use mathlib.Core.Path.{_≡_, refl, sym, ap, ap₂, subst, _∙_}
 use mathlib.Core.Bool.{Bool, true, false}
 use mathlib.Core.List.{List, [], _∷_, _++_, append-nil}
-use Prim.Native.Nat.{ℕ, zero, suc, _+_, _≤_, _<_}
-use native.Mathlib.Nat.{add-zero, zero-add}
+use Prim.Native.Nat.{ℕ, zero, suc, _+_, _*_, _≤_, _<_}
+use native.Mathlib.Nat.{zero-add}
 use native.Mathlib.Omega.{arith}
+use borrow.Author.Tests.{ne-eqb}
 use denote.Ref.{now}
-use lib.ListN.{length, getD, take, drop}
-use Rattle.octets.specs.Octets.{choose, Bytes, over, joined}
+use lib.ListN.{length, take, drop, length-drop}
+use lib.Seq.{drop-drop}
+use lib.Dec.{eqb}
+use Rattle.octets.specs.Octets.{choose, Bytes, Octets, over, joined}
 use Rattle.octets.specs.Blocks.{BlockCipher, Lawful}
-use Rattle.octets.proofs.Blocks.{append-bytes}
+use Rattle.octets.proofs.Blocks.{append-bytes, take-bytes, drop-bytes}
 use Rattle.fips197.specs.Cipher.{aesOf}
 use Rattle.fips197.proofs.Aes.{key-lawful}
 use Rattle.sp800_38a.specs.Pieces.{piece}
 use Rattle.sp800_38b.specs.Cmac.{cmac}
+use Rattle.header.specs.Marks.{isEdition}
 use Rattle.header.specs.Rules.{done}
 use Rattle.header.specs.declared.Progress.{Progress}
-use Rattle.format.specs.Edition.{Edition, one, noCheck}
+use Rattle.format.specs.Edition.{Edition, noCheck, edition}
 use Rattle.format.specs.Sealed.{blockFor}
-use Rattle.format.specs.Judge.{Keys, fresh, standing, BlockReader, ofEdition}
+use Rattle.format.specs.Judge.{Keys, fresh, BlockReader, always, either, ofEdition, ofBoth}
 use Rattle.turns.specs.Turn.{readBlocks, handled, stopNumber}
 use Rattle.turns.specs.declared.Stop.the-variants.{End}
-use Rattle.image.specs.Calls.{writeNumber, writeOutput, startOf, keysOf, completionOf}
+use Rattle.image.specs.Calls.{writeNumber, writeAnswer, writeOutput, lastFor, blockOf, startOf, keysOf, completionOf}
 use Rattle.image.specs.declared.WriteAnswer.{WriteAnswer}
-use Rattle.image.specs.declared.WriteAnswer.the-variants.{Written, WriteKey, WriteCount, WriteNumber, WriteLength, WriteRoom}
+use Rattle.image.specs.declared.WriteAnswer.the-variants.{Written, WriteKey, WriteCount, WriteNumber, WriteLength, WriteEdition, WriteRoom}
 use Rattle.image.specs.declared.Turn.{Turn}
 use Rattle.image.proofs.read_turn.Reads as read-turn
 use Rattle.image.proofs.write.Reads as write
 use Rattle.image.specs.declared.Reader.{Reader}
 use Rattle.image.specs.declared.Completion.the-variants.{Complete, NotComplete}
-use Rattle.promises.proofs.ImageTerms.{Proper, Blocks, plains, parts, lengths, partsIn, AllFilled, afterWrite, blocks, image, given, Lending, turnBy, AllFair, offered, concat, lendEach, AllFew, readerAfter, AllAccepted, handedOut, counted}
+use Rattle.promises.proofs.ImageTerms.{Proper, Blocks, plains, parts, lengths, partsIn, AllFilled, afterWrite, Wrote, blocks, written, image, given, Lending, turnBy, AllFair, offered, concat, lendEach, AllFew, readerAfter, AllAccepted, handedOut, counted}
 use Rattle.promises.proofs.Keys.{KeyTaken}
-use Rattle.promises.proofs.Lemmas.ImageWhole.{Passes, passes-front, image-blocks, image-parts, image-passes}
+use Rattle.promises.proofs.Lemmas.ImageWhole.{Passes, passes-front, no-check-octets, image-blocks, image-parts, image-passes}
+use Rattle.promises.proofs.Lemmas.ImageJudge.{accepted-met}
+use Rattle.promises.proofs.Lemmas.ImageBoth.{editionOf, met-mark, passes-one, passes-both}
 use Rattle.promises.proofs.Lemmas.ImageOne.{releaseOf, front-passes, passes-image, image-release, turns-passed}
 use Rattle.promises.proofs.Lemmas.ImageCalls.{keysUnder, start-fresh, given-blocks}
 use Rattle.promises.proofs.Lemmas.ImageTurn.{end-all, met-filled, ran-met, ran-out, ran-bytes, parts-in, parts-length}
-use Rattle.promises.proofs.Lemmas.ImageRead.{blocks-split, take-whole}
-use Rattle.promises.proofs.Image.{write-output, image-is-written, image-is-read, image-length, given-joined, any-cutting, one-proper, turn-takes-all}
+use Rattle.promises.proofs.Lemmas.ImageRead.{is-sealed, size, bytes, blocks-split, take-whole}
+use Rattle.promises.proofs.Image.{write-output, numbersAt, block-written, image-is-read, image-length, given-joined, any-cutting, edition-proper, turn-takes-all}
 
 -- ---- the words
 
 -- a fresh reader of blocks accepts all of these, and is complete at the end
 pub record AcceptedWhole (d : BlockReader) (bs : List (List ℕ)) : Type 0 where
   pub no-refusal : readBlocks d fresh bs .stop ≡ End
-  pub complete : done (readBlocks d fresh bs .standing .progress) ≡ true
+  pub complete : done (readBlocks d fresh bs .progress) ≡ true
 
 -- blocks are the writer's, all in order, for a payload and a release number
 pub record ImageOf (ed : Edition) (ek ck : BlockCipher) (bs : List (List ℕ)) : Type 0 where
@@ -71,8 +77,8 @@ startedReader ed ekey ckey = ofEdition (keysOf (firstReader ekey ckey)) ed
 -- ---- over any edition and any two lawful ciphers
 
 module _ (ed : Edition) (pe : Proper ed) (ek ck : BlockCipher) (le : Lawful 16 ek) (lc : Lawful 16 ck) (bs : List (List ℕ)) where
-  whole-passes : AcceptedWhole (readerBy ed ek ck) bs → Passes (keysBy ek ck) ed fresh bs
-  whole-passes a = subst (Passes (keysBy ek ck) ed fresh) (append-nil bs) (front-passes (keysBy ek ck) ed fresh bs [] (a .no-refusal) (a .complete))
+  whole-passes : AcceptedWhole (readerBy ed ek ck) bs → Passes (keysBy ek ck) (always ed) fresh bs
+  whole-passes a = subst (Passes (keysBy ek ck) (always ed) fresh) (append-nil bs) (front-passes (keysBy ek ck) (always ed) fresh bs [] (a .no-refusal) (a .complete))
 
   -- a list of blocks is accepted whole exactly if it is an image
   pub accepted-whole-is-an-image : Blocks bs → AcceptedWhole (readerBy ed ek ck) bs → ImageOf ed ek ck bs
@@ -85,8 +91,8 @@ module _ (ed : Edition) (pe : Proper ed) (ek ck : BlockCipher) (le : Lawful 16 e
 
   pub an-image-is-accepted-whole : ImageOf ed ek ck bs → AcceptedWhole (readerBy ed ek ck) bs
   an-image-is-accepted-whole x =
-      let p : Passes (keysBy ek ck) ed fresh (bs ++ []) = rw (append-nil bs, x .is-image) (image-passes ed pe ek ck le lc (x .release) (x .payload) (x .release-fits) (x .payload-fits) (x .payload-bytes)) in
-      let t = passes-front (keysBy ek ck) ed fresh bs [] p in
+      let p : Passes (keysBy ek ck) (always ed) fresh (bs ++ []) = rw (append-nil bs, x .is-image) (image-passes ed pe ek ck le lc (x .release) (x .payload) (x .release-fits) (x .payload-fits) (x .payload-bytes)) in
+      let t = passes-front (keysBy ek ck) (always ed) fresh bs [] p in
       record { no-refusal = t .0; complete = t .2 }
 
   pub accepted-exactly-images : Blocks bs → (AcceptedWhole (readerBy ed ek ck) bs → ImageOf ed ek ck bs) × (ImageOf ed ek ck bs → AcceptedWhole (readerBy ed ek ck) bs)
@@ -115,8 +121,8 @@ module _ (ed : Edition) (pe : Proper ed) (ek ck : BlockCipher) (le : Lawful 16 e
       let w = an-image-is-blocks x in
       let n : readBlocks d fresh bs .accepted ≡ length bs = end-all d fresh bs (an-image-is-accepted-whole x .no-refusal) in
       let all : take (readBlocks d fresh bs .accepted) bs ≡ bs = ap (λ (m : ℕ). take m bs) n ∙ take-whole bs in
-      let full : AllFilled ek bs = subst (AllFilled ek) all (met-filled (keysBy ek ck) ed le fresh (readBlocks d fresh bs .accepted) bs w (ran-met (keysBy ek ck) ed fresh bs)) in
-      let o : readBlocks d fresh bs .out ≡ plains ek bs = ran-out (keysBy ek ck) ed fresh bs ∙ ap (plains ek) all in (
+      let full : AllFilled ek bs = subst (AllFilled ek) all (met-filled (keysBy ek ck) (always ed) le fresh (readBlocks d fresh bs .accepted) bs w (ran-met (keysBy ek ck) (always ed) fresh bs)) in
+      let o : readBlocks d fresh bs .out ≡ plains ek bs = ran-out (keysBy ek ck) (always ed) fresh bs ∙ ap (plains ek) all in (
         ap (λ (y : List ℕ). partsIn bs (over y out)) o ∙ parts-in ek le bs (drop (length (plains ek bs)) out) w full ∙ an-image-holds x .0,
         ran-bytes d fresh bs ∙ ap lengths all ∙ sym (parts-length ek bs full) ∙ ap length (an-image-holds x .0),
       )
@@ -142,6 +148,62 @@ module _ (ekey ckey : List ℕ) (te : KeyTaken ekey) (tc : KeyTaken ckey) (ed : 
   keys-hand-out x out =
       subst (λ (k : Keys). (partsIn bs (over (readBlocks (ofEdition k ed) fresh bs .out) out) ≡ x .payload) × (readBlocks (ofEdition k ed) fresh bs .bytes ≡ length (x .payload)))
       (sym (start-fresh ekey ckey te tc .1)) (an-image-is-handed-out ed pe (aesOf ekey) (aesOf ckey) (key-lawful ekey te) (key-lawful ckey tc) bs x out)
+
+-- ---- both editions
+
+-- blocks are an image in edition 1 or in edition 2
+pub record SomeImage (ek ck : BlockCipher) (bs : List (List ℕ)) : Type 0 where
+  pub number : ℕ
+  pub known : isEdition number ≡ true
+  pub of : ImageOf (edition number) ek ck bs
+
+module _ (ek ck : BlockCipher) (le : Lawful 16 ek) (lc : Lawful 16 ck) (bs : List (List ℕ)) where
+  both-passes : Blocks bs → Passes (keysBy ek ck) either fresh bs → SomeImage ek ck bs
+  unfolding done
+  both-passes w p = go bs w p
+    where
+      go : (bs : List (List ℕ)) → Blocks bs → Passes (keysBy ek ck) either fresh bs → SomeImage ek ck bs
+      go [] w p = let z : _≡_ {A = ℕ} 0 1 = cc in absurd (omega arith)
+      go (b ∷ bs) w p =
+          let q = passes-one (keysBy ek ck) b bs w p in
+          let t = passes-image (edition (editionOf (b ∷ bs))) ek ck le (b ∷ bs) w (q .1) in
+          record {
+            number = editionOf (b ∷ bs);
+            known = q .0;
+            of = record { payload = parts ek (b ∷ bs); release = releaseOf (b ∷ bs); payload-bytes = t .2; payload-fits = t .1; release-fits = t .0; is-image = t .3 };
+          }
+
+  passes-of : (x : SomeImage ek ck bs) → Passes (keysBy ek ck) (always (edition (x .number))) fresh bs
+  passes-of x =
+      rw (x .of .is-image) (image-passes (edition (x .number)) (edition-proper (x .number) (x .known)) ek ck le lc (x .of .release) (x .of .payload) (x .of .release-fits) (x .of .payload-fits) (x .of .payload-bytes))
+
+  some-image-is-blocks : SomeImage ek ck bs → Blocks bs
+  some-image-is-blocks x = an-image-is-blocks (edition (x .number)) (edition-proper (x .number) (x .known)) ek ck le lc bs (x .of)
+
+  -- the reader of both accepts whole exactly the images of either edition
+  pub both-accept-exactly-images : Blocks bs → (AcceptedWhole (ofBoth (keysBy ek ck)) bs → SomeImage ek ck bs) × (SomeImage ek ck bs → AcceptedWhole (ofBoth (keysBy ek ck)) bs)
+  both-accept-exactly-images w = (
+    λ a. both-passes w (subst (Passes (keysBy ek ck) either fresh) (append-nil bs) (front-passes (keysBy ek ck) either fresh bs [] (a .no-refusal) (a .complete))),
+    λ x.
+        let p : Passes (keysBy ek ck) either fresh (bs ++ []) = rw (append-nil bs) (passes-both (keysBy ek ck) (x .number) fresh bs w (λ l. absurd (omega arith)) (passes-of x)) in
+        let t = passes-front (keysBy ek ck) either fresh bs [] p in
+        record { no-refusal = t .0; complete = t .2 },
+  )
+
+  -- the edition is the one that the first block selects, so it is the only one, and so are payload and release
+  pub edition-is-the-first-blocks : (x : SomeImage ek ck bs) → x .number ≡ editionOf bs
+  unfolding done
+  edition-is-the-first-blocks x = go bs (some-image-is-blocks x) (passes-of x)
+    where
+      go : (bs : List (List ℕ)) → Blocks bs → Passes (keysBy ek ck) (always (edition (x .number))) fresh bs → x .number ≡ editionOf bs
+      go [] w p = let z : _≡_ {A = ℕ} 0 1 = cc in absurd (omega arith)
+      go (b ∷ bs) w p = sym (met-mark (keysBy ek ck) fresh b (w .0 .bytes) (x .number) (accepted-met (keysBy ek ck) (edition (x .number)) fresh b (p .0)))
+
+  pub some-image-of-one : (x y : SomeImage ek ck bs) → (x .number ≡ y .number) × (x .of .payload ≡ y .of .payload) × (x .of .release ≡ y .of .release)
+  some-image-of-one x y =
+      let a = an-image-holds (edition (x .number)) (edition-proper (x .number) (x .known)) ek ck le lc bs (x .of) in
+      let b = an-image-holds (edition (y .number)) (edition-proper (y .number) (y .known)) ek ck le lc bs (y .of) in
+      (edition-is-the-first-blocks x ∙ sym (edition-is-the-first-blocks y), sym (a .0) ∙ b .0, sym (a .1) ∙ b .1)
 
 -- ---- the calls: turns of a reader, each lending what it will, into an output that held anything
 
@@ -173,37 +235,36 @@ complete-done r = go (done (r .progress))
 
 module _ (ekey ckey : List ℕ) (te : KeyTaken ekey) (tc : KeyTaken ckey) (ls : List Lending) where
   -- blocks are read whole, in whatever turns, exactly if no turn is refused as a whole and the blocks that the turns handle are an image
-  pub read-whole-is-an-image : AllBytes ls → ReadWhole ekey ckey ls → AllFair ls × ImageOf one (aesOf ekey) (aesOf ckey) (offered ls)
+  pub read-whole-is-an-image : AllBytes ls → ReadWhole ekey ckey ls → AllFair ls × SomeImage (aesOf ekey) (aesOf ckey) (offered ls)
   read-whole-is-an-image w a =
       let s = start-fresh ekey ckey te tc in
       let p = turns-passed (keysUnder ekey ckey) (firstReader ekey ckey) (s .1) ls (a .accepted) (complete-done (readerAfter (firstReader ekey ckey) ls) (a .complete)) in
-      let q : Passes (keysUnder ekey ckey) one fresh (offered ls) = subst (λ (x : Progress). Passes (keysUnder ekey ckey) one (standing x) (offered ls)) (s .2) (p .1) in
-      let t = passes-image one (aesOf ekey) (aesOf ckey) (key-lawful ekey te) (offered ls) (offered-blocks ls w) q in
-      (p .0, record { payload = parts (aesOf ekey) (offered ls); release = releaseOf (offered ls); payload-bytes = t .2; payload-fits = t .1; release-fits = t .0; is-image = t .3 })
+      let q : Passes (keysUnder ekey ckey) either fresh (offered ls) = subst (λ (x : Progress). Passes (keysUnder ekey ckey) either x (offered ls)) (s .2) (p .1) in
+      (p .0, both-passes (aesOf ekey) (aesOf ckey) (key-lawful ekey te) (key-lawful ckey tc) (offered ls) (offered-blocks ls w) q)
 
-  pub an-image-is-read-whole : AllFair ls → ImageOf one (aesOf ekey) (aesOf ckey) (offered ls) → ReadWhole ekey ckey ls
+  pub an-image-is-read-whole : AllFair ls → SomeImage (aesOf ekey) (aesOf ckey) (offered ls) → ReadWhole ekey ckey ls
   an-image-is-read-whole f x =
-      let t = image-is-read ekey ckey (x .release) (x .payload) te tc (x .release-fits) (x .payload-fits) (x .payload-bytes) ls f (x .is-image) in
+      let t = image-is-read (x .number) (x .known) ekey ckey (x .of .release) (x .of .payload) te tc (x .of .release-fits) (x .of .payload-fits) (x .of .payload-bytes) ls f (x .of .is-image) in
       record { accepted = t .0; complete = t .1 }
 
   pub read-exactly-images : AllBytes ls → AllFair ls
-      → (ReadWhole ekey ckey ls → ImageOf one (aesOf ekey) (aesOf ckey) (offered ls)) × (ImageOf one (aesOf ekey) (aesOf ckey) (offered ls) → ReadWhole ekey ckey ls)
+      → (ReadWhole ekey ckey ls → SomeImage (aesOf ekey) (aesOf ckey) (offered ls)) × (SomeImage (aesOf ekey) (aesOf ckey) (offered ls) → ReadWhole ekey ckey ls)
   read-exactly-images w f = (λ a. read-whole-is-an-image w a .1, an-image-is-read-whole f)
 
   -- the parts that the turns hand out join to its payload, and the lengths that they give add up to its length
-  pub turns-hand-out : AllFair ls → (x : ImageOf one (aesOf ekey) (aesOf ckey) (offered ls)) → (handedOut (firstReader ekey ckey) ls ≡ x .payload) × (counted (firstReader ekey ckey) ls ≡ length (x .payload))
+  pub turns-hand-out : AllFair ls → (x : SomeImage (aesOf ekey) (aesOf ckey) (offered ls)) → (handedOut (firstReader ekey ckey) ls ≡ x .of .payload) × (counted (firstReader ekey ckey) ls ≡ length (x .of .payload))
   turns-hand-out f x =
-      let t = image-is-read ekey ckey (x .release) (x .payload) te tc (x .release-fits) (x .payload-fits) (x .payload-bytes) ls f (x .is-image) in
+      let t = image-is-read (x .number) (x .known) ekey ckey (x .of .release) (x .of .payload) te tc (x .of .release-fits) (x .of .payload-fits) (x .of .payload-bytes) ls f (x .of .is-image) in
       (t .2, t .3)
 
 -- so for blocks cut into turns of at most 128 at any places, lent with one output, whatever it holds: no cutting says another thing
 module _ (ekey ckey : List ℕ) (te : KeyTaken ekey) (tc : KeyTaken ckey) (out : List ℕ) (room : 61440 ≤ length out) where
   pub any-cutting-reads-exactly-images : (turns : List (List (List ℕ))) → AllFew turns → Blocks (concat turns)
-      → (ReadWhole ekey ckey (lendEach out turns) → ImageOf one (aesOf ekey) (aesOf ckey) (concat turns))
-      × (ImageOf one (aesOf ekey) (aesOf ckey) (concat turns) → ReadWhole ekey ckey (lendEach out turns))
+      → (ReadWhole ekey ckey (lendEach out turns) → SomeImage (aesOf ekey) (aesOf ckey) (concat turns))
+      × (SomeImage (aesOf ekey) (aesOf ckey) (concat turns) → ReadWhole ekey ckey (lendEach out turns))
   any-cutting-reads-exactly-images turns few w =
       let c = any-cutting out room turns few w in
-      subst (λ (bs : List (List ℕ)). (ReadWhole ekey ckey (lendEach out turns) → ImageOf one (aesOf ekey) (aesOf ckey) bs) × (ImageOf one (aesOf ekey) (aesOf ckey) bs → ReadWhole ekey ckey (lendEach out turns)))
+      subst (λ (bs : List (List ℕ)). (ReadWhole ekey ckey (lendEach out turns) → SomeImage (aesOf ekey) (aesOf ckey) bs) × (SomeImage (aesOf ekey) (aesOf ckey) bs → ReadWhole ekey ckey (lendEach out turns)))
       (c .1) (read-exactly-images ekey ckey te tc (lendEach out turns) (lent-bytes turns w) (c .0))
     where
       whole : (bs : List (List ℕ)) → Blocks bs → Bytes (joined bs)
@@ -276,8 +337,8 @@ called-says r (c ∷ cs) w =
 -- image; and the payloads in their outputs join to its payload
 module _ (ekey ckey : List ℕ) (te : KeyTaken ekey) (tc : KeyTaken ckey) (cs : List TurnCall) (w : Called (firstReader ekey ckey) cs) where
   pub calls-read-exactly-images : AllBytes (lendings cs) → AllFair (lendings cs)
-      → (NoRefusal cs × (completionOf (lastReader (firstReader ekey ckey) cs) ≡ Complete) → ImageOf one (aesOf ekey) (aesOf ckey) (offered (lendings cs)))
-      × (ImageOf one (aesOf ekey) (aesOf ckey) (offered (lendings cs)) → NoRefusal cs × (completionOf (lastReader (firstReader ekey ckey) cs) ≡ Complete))
+      → (NoRefusal cs × (completionOf (lastReader (firstReader ekey ckey) cs) ≡ Complete) → SomeImage (aesOf ekey) (aesOf ckey) (offered (lendings cs)))
+      × (SomeImage (aesOf ekey) (aesOf ckey) (offered (lendings cs)) → NoRefusal cs × (completionOf (lastReader (firstReader ekey ckey) cs) ≡ Complete))
   calls-read-exactly-images b f =
       let s = called-says (firstReader ekey ckey) cs w in
       let t = read-exactly-images ekey ckey te tc (lendings cs) b f in (
@@ -285,49 +346,57 @@ module _ (ekey ckey : List ℕ) (te : KeyTaken ekey) (tc : KeyTaken ckey) (cs : 
         λ x. (s .3 (t .1 x .accepted), ap completionOf (sym (s .0)) ∙ t .1 x .complete),
       )
 
-  pub calls-hand-out : AllFair (lendings cs) → (x : ImageOf one (aesOf ekey) (aesOf ckey) (offered (lendings cs))) → partsOf cs ≡ x .payload
+  pub calls-hand-out : AllFair (lendings cs) → (x : SomeImage (aesOf ekey) (aesOf ckey) (offered (lendings cs))) → partsOf cs ≡ x .of .payload
   calls-hand-out f x = sym (called-says (firstReader ekey ckey) cs w .1) ∙ turns-hand-out ekey ckey te tc (lendings cs) f x .0
 
 -- ---- the calls: two writers
 
--- what calls of the writer leave in the first 512 bytes of their outputs, which held anything before: n blocks of a payload from a number on
-abbrev pub writtenInto : (outs : ℕ → List ℕ) (ekey ckey : List ℕ) (release : ℕ) (payload : List ℕ) (number n : ℕ) → List (List ℕ)
-writtenInto outs ekey ckey release payload number zero = []
-writtenInto outs ekey ckey release payload number (suc n) =
-    take 512 (afterWrite ekey ckey number (blocks payload) release (piece 480 payload number) (outs number)) ∷ writtenInto outs ekey ckey release payload (number + 1) n
+-- what calls of the writer leave in the first 512 bytes of their outputs, which held anything before: n blocks of a payload from a number on,
+-- each on the check of the one before
+abbrev pub writtenInto : (edition : ℕ) (outs : ℕ → List ℕ) (ekey ckey : List ℕ) (release : ℕ) (payload previous : List ℕ) (number n : ℕ) → List (List ℕ)
+writtenInto edition outs ekey ckey release payload previous number zero = []
+writtenInto edition outs ekey ckey release payload previous number (suc n) =
+    let b = take 512 (afterWrite ekey ckey (numbersAt edition payload release number) previous (piece 480 payload number) (outs number)) in
+    b ∷ writtenInto edition outs ekey ckey release payload (drop 496 b) (number + 1) n
 
 -- the file: the blocks of the whole payload, one after another
-abbrev pub fileInto : (outs : ℕ → List ℕ) (ekey ckey : List ℕ) (release : ℕ) (payload : List ℕ) → List ℕ
-fileInto outs ekey ckey release payload = joined (writtenInto outs ekey ckey release payload 0 (blocks payload))
+abbrev pub fileInto : (edition : ℕ) (outs : ℕ → List ℕ) (ekey ckey : List ℕ) (release : ℕ) (payload : List ℕ) → List ℕ
+fileInto edition outs ekey ckey release payload = joined (writtenInto edition outs ekey ckey release payload noCheck 0 (blocks payload))
 
-module _ (ekey ckey : List ℕ) (release : ℕ) (payload : List ℕ) (te : KeyTaken ekey) (tc : KeyTaken ckey) (hr : release < 4294967296) (lp : length payload ≤ 31456800) (bp : Bytes payload) where
+module _ (e : ℕ) (known : isEdition e ≡ true) (ekey ckey : List ℕ) (release : ℕ) (payload : List ℕ) (te : KeyTaken ekey) (tc : KeyTaken ckey) (hr : release < 4294967296) (lp : length payload ≤ 31456800) (bp : Bytes payload) where
   -- the writer's blocks are the image
   pub the-writer-makes-the-image : (outs : ℕ → List ℕ) → ((i : ℕ) → i < blocks payload → 512 ≤ length (outs i))
-      → writtenInto outs ekey ckey release payload 0 (blocks payload) ≡ image one (aesOf ekey) (aesOf ckey) release payload
-  the-writer-makes-the-image outs room = from 0 (blocks payload) (image one (aesOf ekey) (aesOf ckey) release payload) (image-length one (aesOf ekey) (aesOf ckey) release payload) (λ i h. at i h)
+      → writtenInto e outs ekey ckey release payload noCheck 0 (blocks payload) ≡ image (edition e) (aesOf ekey) (aesOf ckey) release payload
+  unfolding written lastFor
+  the-writer-makes-the-image outs room = from (blocks payload) 0 noCheck (zero-add (blocks payload)) no-check-octets (λ h. refl)
     where
-      shift : (number i : ℕ) → number + 1 + i ≡ number + suc i
-      shift number i = omega arith
-
-      at : (i : ℕ) → i < blocks payload → take 512 (afterWrite ekey ckey (0 + i) (blocks payload) release (piece 480 payload (0 + i)) (outs (0 + i))) ≡ getD (image one (aesOf ekey) (aesOf ckey) release payload) i []
-      at i h =
-          ap (λ (j : ℕ). take 512 (afterWrite ekey ckey j (blocks payload) release (piece 480 payload j) (outs j))) (zero-add i)
-          ∙ image-is-written ekey ckey release payload te tc hr lp bp i h (outs i) (room i h) .1
-
-      from : (number n : ℕ) (bs : List (List ℕ)) → length bs ≡ n
-          → ((i : ℕ) → i < n → take 512 (afterWrite ekey ckey (number + i) (blocks payload) release (piece 480 payload (number + i)) (outs (number + i))) ≡ getD bs i [])
-          → writtenInto outs ekey ckey release payload number n ≡ bs
-      from number zero [] e f = refl
-      from number zero (b ∷ bs) e f = absurd (omega arith)
-      from number (suc n) [] e f = absurd (omega arith)
-      from number (suc n) (b ∷ bs) e f =
-          ap₂ (λ (x : List ℕ) (y : List (List ℕ)). x ∷ y)
-          (ap (λ (j : ℕ). take 512 (afterWrite ekey ckey j (blocks payload) release (piece 480 payload j) (outs j))) (sym (add-zero number)) ∙ f 0 (omega arith))
-          (from (number + 1) n bs (omega arith) (λ i h. ap (λ (j : ℕ). take 512 (afterWrite ekey ckey j (blocks payload) release (piece 480 payload j) (outs j))) (shift number i) ∙ f (suc i) (omega arith)))
+      from : (n number : ℕ) (previous : List ℕ) → number + n ≡ blocks payload → Octets 16 previous → (number ≡ 0 → previous ≡ noCheck)
+          → writtenInto e outs ekey ckey release payload previous number n ≡ written (edition e) (aesOf ekey) (aesOf ckey) (blocks payload) release previous number n (drop (number * 480) payload)
+      from zero number previous h o f = refl
+      from (suc n) number previous h o f =
+          let below : number < blocks payload = omega arith in
+          let q = piece 480 payload number in
+          let bq : Bytes q = take-bytes 480 (drop (number * 480) payload) (drop-bytes (number * 480) payload bp) in
+          let m = numbersAt e payload release number in
+          let a : writeAnswer ekey ckey m q (outs number) ≡ Written = block-written e known ekey ckey release payload te tc hr lp bp number below (outs number) (room number below) in
+          let b = take 512 (afterWrite ekey ckey m previous q (outs number)) in
+          let w : Wrote ekey ckey m previous q b = record { out = outs number; answer = a; block = refl; previous-octets = o; payload-bytes = bq; release-fits = hr } in
+          let eb : b ≡ blockFor (edition e) (aesOf ekey) (aesOf ckey) previous number (blocks payload) release q =
+          is-sealed ekey ckey m previous q b w ∙ ap (λ (x : List ℕ). blockFor (edition e) (aesOf ekey) (aesOf ckey) x number (blocks payload) release q) (on number f) in
+          let c : (number + 1) * 480 ≡ number * 480 + 480 = omega arith in
+          let d : drop ((number + 1) * 480) payload ≡ drop 480 (drop (number * 480) payload) = ap (λ (k : ℕ). drop k payload) c ∙ sym (drop-drop 480 (number * 480) payload) in
+          let ih = from n (number + 1) (drop 496 b) (omega arith) (record { size = omega (arith, length-drop 496 b, size ekey ckey m previous q b w); bytes = drop-bytes 496 b (bytes ekey ckey m previous q b w) }) (λ z. absurd (omega arith)) in
+          ap (b ∷_) ih
+          ∙ ap (λ (x : List ℕ). b ∷ written (edition e) (aesOf ekey) (aesOf ckey) (blocks payload) release (drop 496 b) (number + 1) n x) d
+          ∙ ap (λ (x : List ℕ). x ∷ written (edition e) (aesOf ekey) (aesOf ckey) (blocks payload) release (drop 496 x) (number + 1) n (drop 480 (drop (number * 480) payload))) eb
+        where
+          on : (number : ℕ) → (number ≡ 0 → previous ≡ noCheck) → choose (eqb number 0) noCheck previous ≡ previous
+          on zero f = sym (f refl)
+          on (suc i) f = rw (ne-eqb (suc i) 0 (λ q. omega arith)) refl
 
   -- so two writers of one payload and one number give one file to the byte, whatever their outputs held before
   pub two-writers-give-one-file : (outs outs′ : ℕ → List ℕ) → ((i : ℕ) → i < blocks payload → 512 ≤ length (outs i)) → ((i : ℕ) → i < blocks payload → 512 ≤ length (outs′ i))
-      → fileInto outs ekey ckey release payload ≡ fileInto outs′ ekey ckey release payload
+      → fileInto e outs ekey ckey release payload ≡ fileInto e outs′ ekey ckey release payload
   two-writers-give-one-file outs outs′ room room′ = ap joined (the-writer-makes-the-image outs room ∙ sym (the-writer-makes-the-image outs′ room′))
 
 -- the same of the calls by their contracts: `write`, answered by 0, leaves the block in the first 512 bytes of the output
@@ -337,22 +406,23 @@ written-number WriteKey e = absurd (omega arith)
 written-number WriteCount e = absurd (omega arith)
 written-number WriteNumber e = absurd (omega arith)
 written-number WriteLength e = absurd (omega arith)
+written-number WriteEdition e = absurd (omega arith)
 written-number WriteRoom e = absurd (omega arith)
 
-pub write-leaves-the-block : (κs : _) (a : _) (r : _) (s : _) → write.Post κs a r s → Bytes (now (a .1 .1 .1 .1 .1 .0)) → writeNumber r ≡ 0
-    → take 512 (now (s .1 .1 .1 .1 .1 .1 .0)) ≡ blockFor one (aesOf (now (a .0))) (aesOf (now (a .1 .0))) noCheck (a .1 .1 .0) (a .1 .1 .1 .0) (a .1 .1 .1 .1 .0) (now (a .1 .1 .1 .1 .1 .0))
-write-leaves-the-block κs a r s p bytes e =
-    ap (take 512) (p .1 ∙ ap (λ (x : WriteAnswer). writeOutput x (now (a .0)) (now (a .1 .0)) (a .1 .1 .0) (a .1 .1 .1 .0) (a .1 .1 .1 .1 .0) (now (a .1 .1 .1 .1 .1 .0)) (now (a .1 .1 .1 .1 .1 .1 .0))) (p .0))
-    ∙ write-output (now (a .0)) (now (a .1 .0)) (a .1 .1 .0) (a .1 .1 .1 .0) (a .1 .1 .1 .1 .0) (now (a .1 .1 .1 .1 .1 .0)) (now (a .1 .1 .1 .1 .1 .1 .0)) bytes (sym (p .0) ∙ written-number r e) .0
+pub write-leaves-the-block : (κs : _) (a : _) (r : _) (s : _) → write.Post κs a r s → Bytes (a .1 .1 .1 .0) → Bytes (now (a .1 .1 .1 .1 .0)) → writeNumber r ≡ 0
+    → take 512 (now (s .1 .1 .1 .1 .1 .0)) ≡ blockOf (now (a .0)) (now (a .1 .0)) (a .1 .1 .0) (a .1 .1 .1 .0) (now (a .1 .1 .1 .1 .0))
+write-leaves-the-block κs a r s p before bytes e =
+    ap (take 512) (p .1 ∙ ap (λ (x : WriteAnswer). writeOutput x (now (a .0)) (now (a .1 .0)) (a .1 .1 .0) (a .1 .1 .1 .0) (now (a .1 .1 .1 .1 .0)) (now (a .1 .1 .1 .1 .1 .0))) (p .0))
+    ∙ write-output (now (a .0)) (now (a .1 .0)) (a .1 .1 .0) (a .1 .1 .1 .0) (now (a .1 .1 .1 .1 .0)) (now (a .1 .1 .1 .1 .1 .0)) before bytes (sym (p .0) ∙ written-number r e) .0
 
--- so two of them, of the same keys, numbers and payload, leave the same 512 bytes in any two outputs
+-- so two of them, of the same keys, numbers, check before and payload, leave the same 512 bytes in any two outputs
 module _ (κs : _) (a : _) (r : _) (s : _) (p : write.Post κs a r s) (κs′ : _) (a′ : _) (r′ : _) (s′ : _) (p′ : write.Post κs′ a′ r′ s′) where
-  pub two-writes-leave-one-block : now (a .0) ≡ now (a′ .0) → now (a .1 .0) ≡ now (a′ .1 .0) → a .1 .1 .0 ≡ a′ .1 .1 .0 → a .1 .1 .1 .0 ≡ a′ .1 .1 .1 .0 → a .1 .1 .1 .1 .0 ≡ a′ .1 .1 .1 .1 .0
-      → now (a .1 .1 .1 .1 .1 .0) ≡ now (a′ .1 .1 .1 .1 .1 .0) → Bytes (now (a .1 .1 .1 .1 .1 .0)) → writeNumber r ≡ 0 → writeNumber r′ ≡ 0
-      → take 512 (now (s .1 .1 .1 .1 .1 .1 .0)) ≡ take 512 (now (s′ .1 .1 .1 .1 .1 .1 .0))
-  two-writes-leave-one-block ekey ckey number count release payload bytes e e′ =
-      write-leaves-the-block κs a r s p bytes e
-      ∙ rw (ekey, ckey, number, count, release, payload) (sym (write-leaves-the-block κs′ a′ r′ s′ p′ (subst Bytes payload bytes) e′))
+  pub two-writes-leave-one-block : now (a .0) ≡ now (a′ .0) → now (a .1 .0) ≡ now (a′ .1 .0) → a .1 .1 .0 ≡ a′ .1 .1 .0 → a .1 .1 .1 .0 ≡ a′ .1 .1 .1 .0
+      → now (a .1 .1 .1 .1 .0) ≡ now (a′ .1 .1 .1 .1 .0) → Bytes (a .1 .1 .1 .0) → Bytes (now (a .1 .1 .1 .1 .0)) → writeNumber r ≡ 0 → writeNumber r′ ≡ 0
+      → take 512 (now (s .1 .1 .1 .1 .1 .0)) ≡ take 512 (now (s′ .1 .1 .1 .1 .1 .0))
+  two-writes-leave-one-block ekey ckey numbers previous payload before bytes e e′ =
+      write-leaves-the-block κs a r s p before bytes e
+      ∙ rw (ekey, ckey, numbers, previous, payload) (sym (write-leaves-the-block κs′ a′ r′ s′ p′ (subst Bytes previous before) (subst Bytes payload bytes) e′))
 
 -- ---- one instance: the image of the empty payload, under any two keys that are taken and any release number
 
@@ -380,13 +450,17 @@ module _ (ekey ckey : List ℕ) (te : KeyTaken ekey) (tc : KeyTaken ckey) (relea
   empty-image-is-found =
       keys-image-of-one ekey ckey te tc ed pe (emptyImage ed ekey ckey release) (keys-accept-exactly-images ekey ckey te tc ed pe (emptyImage ed ekey ckey release) (empty-image-is-one-block .1) .0 empty-image-is-accepted) empty-image
 
--- and of the calls: one turn over it, into any output with room for 480 bytes, reads it whole
-pub empty-image-is-read : (ekey ckey : List ℕ) → KeyTaken ekey → KeyTaken ckey → (release : ℕ) → release < 4294967296 → (out : List ℕ) → 480 ≤ length out
-    → ReadWhole ekey ckey (record { lent = joined (emptyImage one ekey ckey release); asked = 1; out = out } ∷ [])
-empty-image-is-read ekey ckey te tc release hr out room =
-    let bs = emptyImage one ekey ckey release in
-    let e = empty-image-is-one-block ekey ckey te tc release hr one one-proper in
+-- and of the calls: one turn over it, into any output with room for 480 bytes, reads it whole, in either edition
+pub empty-image-is-read : (n : ℕ) → isEdition n ≡ true → (ekey ckey : List ℕ) → KeyTaken ekey → KeyTaken ckey → (release : ℕ) → release < 4294967296 → (out : List ℕ) → 480 ≤ length out
+    → ReadWhole ekey ckey (record { lent = joined (emptyImage (edition n) ekey ckey release); asked = 1; out = out } ∷ [])
+empty-image-is-read n known ekey ckey te tc release hr out room =
+    let bs = emptyImage (edition n) ekey ckey release in
+    let e = empty-image-is-one-block ekey ckey te tc release hr (edition n) (edition-proper n known) in
     let g = given-joined bs 1 (e .1) (omega (arith, e .0)) in
     an-image-is-read-whole ekey ckey te tc (record { lent = joined bs; asked = 1; out = out } ∷ [])
     (record { some-asked = omega arith; few-asked = omega arith; blocks-lent = omega (arith, g .0); room = omega (arith, g .1, e .0) }, tt)
-    (record { payload = []; release = release; payload-bytes = λ k. omega arith; payload-fits = omega arith; release-fits = hr; is-image = append-nil (given (joined bs) 1) ∙ g .2 })
+    (record {
+      number = n;
+      known = known;
+      of = record { payload = []; release = release; payload-bytes = λ k. omega arith; payload-fits = omega arith; release-fits = hr; is-image = append-nil (given (joined bs) 1) ∙ g .2 };
+    })

@@ -9,7 +9,7 @@ fn when(number: u32) {
         9 => tell::say(b"the count differs from that of the first block accepted"),
         10 => tell::say(b"the release differs from that of the first block accepted"),
         12 => length(),
-        13 => tell::say(b"the two reserved bytes are not 0"),
+        13 => edition(),
         14 => tell::say(b"the check is wrong"),
         15 => tell::say(b"after decryption the bytes behind the payload are not zero"),
         16 => tell::say(b"a block is offered after the last"),
@@ -24,17 +24,21 @@ fn length() {
     tell::say(b"or 0 to 480 where it is the only one");
 }
 
+fn edition() {
+    tell::say(b"bytes 14 and 15 are neither 0 nor 2, or are not those of the edition ");
+    tell::say(b"that the first block accepted has fixed");
+}
+
 fn next(number: u32) {
     match number {
         6 => tell::say(
             b"The file or transfer ends inside a block: fetch it from the block expected on",
         ),
-        7 | 12 | 13 => sealed_so(),
-        8 => tell::say(
-            b"A block was lost, repeated or overtaken: fetch and offer the one expected",
-        ),
-        9 => tell::say(b"Blocks of two images are mixed: start anew with one release"),
-        10 => tell::say(b"Blocks of two releases are mixed: start anew with one release"),
+        7 | 12 => sealed_so(),
+        8 => not_expected(),
+        9 => mixed(b"Blocks of two images"),
+        10 => mixed(b"Blocks of two releases"),
+        13 => both_editions(),
         14 => check_wrong(),
         15 => other_key(),
         16 => tell::say(
@@ -51,9 +55,26 @@ fn sealed_so() {
     tell::say(b"and fetching again does not help");
 }
 
+fn not_expected() {
+    tell::say(b"A block was lost, repeated or overtaken: fetch and offer the one expected. ");
+    tell::say(b"In edition 2 that gets 14, and 8 is as 7");
+}
+
+fn mixed(blocks: &[u8]) {
+    tell::say(blocks);
+    tell::say(b" are mixed: start anew with one release. In edition 2 that gets 14 as a rule");
+}
+
+fn both_editions() {
+    tell::say(
+        b"Where they are 0 or 2, images of both editions are mixed: start anew with one of them. ",
+    );
+    tell::say(b"Any other value is as 7, or of an edition that this reader does not know");
+}
+
 fn check_wrong() {
-    tell::say(b"The block is damaged, or the check key is another: fetch the block again. ");
-    tell::say(b"Where block 0 of every copy gets it, look at the key");
+    tell::say(b"Fetch the block again, and offer the one expected. ");
+    tell::say(b"What else it can be stands in docs/REFUSALS.md under 'What a 14 can be'");
 }
 
 fn other_key() {

@@ -14,7 +14,7 @@ pub struct Told {
 pub fn standing(p: Progress, payload: u64) -> Told {
     Told {
         release: p.release,
-        edition: 1,
+        edition: p.edition,
         blocks: p.next,
         payload,
     }

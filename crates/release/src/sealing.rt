@@ -6,6 +6,7 @@ use crate::line;
 use crate::tell;
 use cut::Counted;
 use digits::Number;
+use image::Numbers;
 use line::Told;
 ghost use Prim.Native.Nat.{_≤_, _<_};
 
@@ -43,12 +44,17 @@ fn is_written(
     payload: &[u8],
     output: &mut [u8],
 ) -> bool {
+    let numbers = Numbers {
+        number,
+        count: job.count,
+        release: job.release,
+        edition: job.edition,
+    };
     let answer = image::write(
         input::encryption_key(keys),
         input::check_key(keys),
-        number,
-        job.count,
-        job.release,
+        numbers,
+        last,
         payload,
         output,
     );
@@ -310,7 +316,7 @@ fn seal_as(release: u32, edition: u32) {
 
 // The editions that the writer knows.
 fn is_edition(e: u64) -> bool {
-    e == 1
+    if e == 1 { true } else { e == 2 }
 }
 
 pub fn seal_file() {
@@ -325,7 +331,7 @@ pub fn seal_file() {
         return;
     };
     if !is_edition(e) {
-        tell::plain(b"there is no such edition: take 1");
+        tell::plain(b"there is no such edition: take 1 or 2");
         return;
     }
     seal_as((r % 4294967296) as u32, (e % 4294967296) as u32);

@@ -12,6 +12,9 @@ use header::Progress;
 use header::Reason;
 use header::Verdict;
 use header::judge_head;
+use header::mark_for;
+use header::selected;
+use header::tail_size;
 use layout::Head;
 use layout::head_of;
 use opening::fill_is_zero;
@@ -19,10 +22,8 @@ use schedule::is_round_count;
 ghost use mathlib.Core.Path.{_≡_};
 ghost use mathlib.Core.Bool.{_&&_};
 ghost use Rattle.lookups.specs.Lookups.{oneTable};
-ghost use Rattle.format.specs.Edition.{one};
 ghost use Rattle.format.specs.Sealed.{checks};
-ghost use Rattle.format.specs.Judge.{standing};
-ghost use Rattle.format.specs.Judge as format;
+ghost use Rattle.format.specs.Judge.{ofBoth};
 ghost use Rattle.format.specs.Lent.{usable, lentMac, lentKeys, sealedOver, headRead, judged};
 
 // Whether a block carries its check, all 16 bytes, which covers a tail besides. Under a schedule that no key gave, no check is right.
@@ -50,7 +51,7 @@ pub fn check_holds(
     equal(made, load(block, 496))
 }
 
-// The verdict on a block, and its header. Nothing is opened for it: the fill's test decrypts piece by piece.
+// The verdict of a reader of both editions on a block, and its header. Nothing is opened for it: the fill's test decrypts piece by piece.
 pub fn judge(
     forth: &[u32; 256],
     back: &[u32; 256],
@@ -133,15 +134,17 @@ fn verdict_on(
     block: &[u8],
 ) -> Verdict
     requires { ⌜ head ≡ headRead (now block) ⌝ }
-    ensures { λ r. ⌜ r ≡ format.judge (lentKeys (now (forth .entry)) (now (back .entry)) (now (ewords .entry)) (now (dwords .entry)) (now (cwords .entry)) (now (key1 .entry)) (now (key2 .entry)) rounds) one (standing progress) (now (block .entry)) ⌝ }
+    ensures { λ r. ⌜ r ≡ ofBoth (lentKeys (now (forth .entry)) (now (back .entry)) (now (ewords .entry)) (now (dwords .entry)) (now (cwords .entry)) (now (key1 .entry)) (now (key2 .entry)) rounds) .verdict progress (now (block .entry)) ⌝ }
 {
     if header::closed(progress) {
         return Verdict::Refused(Reason::AfterLast);
     }
-    if !check_holds(forth, cwords, key1, key2, rounds, b"", block) {
+    let last = progress.last;
+    let covered = tail_size(selected(head.reserved));
+    if !check_holds(forth, cwords, key1, key2, rounds, &last[0..covered], block) {
         return Verdict::Refused(Reason::CheckWrong);
     }
-    let verdict = judge_head(progress, head, 0);
+    let verdict = judge_head(progress, head, mark_for(progress, head.reserved));
     let Verdict::Accepted = verdict else {
         return verdict;
     };

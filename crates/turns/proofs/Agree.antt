@@ -1,6 +1,6 @@
 -- A turn over the tables of the standard is a turn over AES. Assumes nothing.
 use mathlib.Core.Path.{_≡_, refl, ap, ap₂, _∙_}
-use mathlib.Core.List.{List, []}
+use mathlib.Core.List.{List}
 use Prim.Native.Nat.{ℕ, zero, suc, _*_, _≤_}
 use native.Mathlib.Omega.{arith}
 use lib.ListN.{length, take, drop, length-drop}
@@ -10,24 +10,26 @@ use Rattle.tables.specs.Tables.{forwardTable, inverseTable}
 use Rattle.lookups.specs.Lookups.{oneTable, inverseWords}
 use Rattle.sp800_38b.specs.Cmac.{doubled, key1, key2}
 use Rattle.layout.specs.Layout.{headOf}
+use Rattle.header.specs.Marks.{selected}
+use Rattle.header.specs.declared.Progress.{Progress}
 use Rattle.header.specs.declared.Verdict.{Verdict}
 use Rattle.header.specs.declared.Verdict.the-variants.{Accepted, Refused}
-use Rattle.format.specs.Edition.{one}
-use Rattle.format.specs.Judge.{Standing, BlockReader, ofEdition, taken}
+use Rattle.format.specs.Judge.{BlockReader, either, ofBoth, taken}
 use Rattle.format.specs.Lent.{lentKeys}
 use Rattle.format.specs.declared.Rounds.{Rounds}
+use Rattle.format.proofs.Editions.{tail-bytes}
 use Rattle.format.proofs.Agree.{verdict-same, plain-same}
 use Rattle.turns.specs.Turn.{Reading, onward, readBlocks, cut, keysUnder}
 
 -- two readers that give every block the same verdict, and open alike what they accept
-module _ (d e : BlockReader) (verdicts : (s : Standing) (b : List ℕ) → Octets 512 b → d .verdict s b ≡ e .verdict s b)
-    (plains : (s : Standing) (b : List ℕ) → Octets 512 b → e .verdict s b ≡ Accepted → d .plain b ≡ e .plain b) where
-  read-same : (k : ℕ) (s : Standing) (bl : List ℕ) → k * 512 ≤ length bl → Bytes bl → readBlocks d s (cut k bl) ≡ readBlocks e s (cut k bl)
+module _ (d e : BlockReader) (verdicts : (s : Progress) (b : List ℕ) → Bytes (s .last) → Octets 512 b → d .verdict s b ≡ e .verdict s b)
+    (plains : (s : Progress) (b : List ℕ) → Bytes (s .last) → Octets 512 b → e .verdict s b ≡ Accepted → d .plain b ≡ e .plain b) where
+  read-same : (k : ℕ) (s : Progress) (bl : List ℕ) → Bytes (s .last) → k * 512 ≤ length bl → Bytes bl → readBlocks d s (cut k bl) ≡ readBlocks e s (cut k bl)
   unfolding readBlocks cut
-  read-same zero s bl h bytes = refl
-  read-same (suc k) s bl h bytes =
-      let ih = read-same k (taken s b) (drop 512 bl) (omega (arith, length-drop 512 bl)) (drop-bytes 512 bl bytes) in
-      rw (verdicts s b o) (go (e .verdict s b) refl ih)
+  read-same zero s bl bs h bytes = refl
+  read-same (suc k) s bl bs h bytes =
+      let ih = read-same k (taken s b) (drop 512 bl) (drop-bytes 496 b (o .bytes)) (omega (arith, length-drop 512 bl)) (drop-bytes 512 bl bytes) in
+      rw (verdicts s b bs o) (go (e .verdict s b) refl ih)
     where
       b : List ℕ
       b = take 512 bl
@@ -37,24 +39,24 @@ module _ (d e : BlockReader) (verdicts : (s : Standing) (b : List ℕ) → Octet
 
       go : (v : Verdict) → e .verdict s b ≡ v → readBlocks d (taken s b) (cut k (drop 512 bl)) ≡ readBlocks e (taken s b) (cut k (drop 512 bl))
           → onward v s (headOf b .len) (d .plain b) (readBlocks d (taken s b) (cut k (drop 512 bl))) ≡ onward v s (headOf b .len) (e .plain b) (readBlocks e (taken s b) (cut k (drop 512 bl)))
-      go Accepted q ih = ap₂ (λ (x : List ℕ) (t : Reading). onward Accepted s (headOf b .len) x t) (plains s b o q) ih
+      go Accepted q ih = ap₂ (λ (x : List ℕ) (t : Reading). onward Accepted s (headOf b .len) x t) (plains s b bs o q) ih
       go (Refused reason) q ih = refl
 
 module _ (t t' : List ℕ) (pt : t ≡ forwardTable) (pi : t' ≡ inverseTable) (ew dw cw k1 k2 : List ℕ) (n : Rounds) (pd : dw ≡ inverseWords ew (n .enc))
     (p1 : k1 ≡ key1 (oneTable t cw (n .chk))) (p2 : k2 ≡ key2 (oneTable t cw (n .chk))) where
-  none : Bytes []
-  none i = omega arith
+  covered : (s : Progress) (b : List ℕ) → Bytes (s .last) → Bytes (either s (headOf b .reserved) .tail (s .last))
+  covered s b bs = tail-bytes (selected (headOf b .reserved)) (s .last) bs
 
-  pub ran-same : (k : ℕ) (s : Standing) (bl : List ℕ) → k * 512 ≤ length bl → Bytes bl
-      → readBlocks (ofEdition (lentKeys t t' ew dw cw k1 k2 n) one) s (cut k bl)
-      ≡ readBlocks (ofEdition (keysUnder ew cw n) one) s (cut k bl)
+  pub ran-same : (k : ℕ) (s : Progress) (bl : List ℕ) → Bytes (s .last) → k * 512 ≤ length bl → Bytes bl
+      → readBlocks (ofBoth (lentKeys t t' ew dw cw k1 k2 n)) s (cut k bl) ≡ readBlocks (ofBoth (keysUnder ew cw n)) s (cut k bl)
   ran-same =
-      read-same (ofEdition (lentKeys t t' ew dw cw k1 k2 n) one) (ofEdition (keysUnder ew cw n) one)
-      (λ s b o. verdict-same t t' pt pi ew dw cw k1 k2 n pd p1 p2 one s none b o) (λ s b o. plain-same t t' pt pi ew dw cw k1 k2 n pd p1 p2 one s none b o)
+      read-same (ofBoth (lentKeys t t' ew dw cw k1 k2 n)) (ofBoth (keysUnder ew cw n))
+      (λ s b bs o. verdict-same t t' pt pi ew dw cw k1 k2 n pd p1 p2 (either s (headOf b .reserved)) s (covered s b bs) b o)
+      (λ s b bs o. plain-same t t' pt pi ew dw cw k1 k2 n pd p1 p2 (either s (headOf b .reserved)) s (covered s b bs) b o)
 
 -- over the tables and the subkeys that the call makes
 module _ (t t' dw k1 k2 : List ℕ) (pt : t ≡ forwardTable) (pi : t' ≡ inverseTable) (ew cw : List ℕ) (n : Rounds) (pd : dw ≡ inverseWords ew (n .enc))
-    (p1 : k1 ≡ key1 (oneTable t cw (n .chk))) (p2 : k2 ≡ doubled k1) (k : ℕ) (s : Standing) (bl : List ℕ) (h : k * 512 ≤ length bl) (b : Bytes bl) where
-  pub reading-is : readBlocks (ofEdition (lentKeys t t' ew dw cw k1 k2 n) one) s (cut k bl) ≡ readBlocks (ofEdition (keysUnder ew cw n) one) s (cut k bl)
+    (p1 : k1 ≡ key1 (oneTable t cw (n .chk))) (p2 : k2 ≡ doubled k1) (k : ℕ) (s : Progress) (bl : List ℕ) (bs : Bytes (s .last)) (h : k * 512 ≤ length bl) (b : Bytes bl) where
+  pub reading-is : readBlocks (ofBoth (lentKeys t t' ew dw cw k1 k2 n)) s (cut k bl) ≡ readBlocks (ofBoth (keysUnder ew cw n)) s (cut k bl)
   unfolding key2
-  reading-is = ran-same t t' pt pi ew dw cw k1 k2 n pd p1 (p2 ∙ ap doubled p1) k s bl h b
+  reading-is = ran-same t t' pt pi ew dw cw k1 k2 n pd p1 (p2 ∙ ap doubled p1) k s bl bs h b

@@ -1,25 +1,32 @@
 -- A turn block by block: what is left to do from block j on, put behind what was done, is the whole turn. Assumes nothing.
 use mathlib.Core.Path.{_≡_, refl, sym, ap, ap₂, _∙_}
+use mathlib.Core.Bool.{Bool, true, false, _&&_}
+use types.Run.{OneOf, miss}
+use denote.Enum.Declared.{tagOf}
 use mathlib.Core.List.{List, [], _∷_, _++_, append-assoc}
+use lib.Dec.{ltb}
+use borrow.Author.Tests.{ltb-true, ltb-false}
 use Prim.Native.Nat.{ℕ, suc, _+_, _-_, _*_, _%_, _≤_, _<_}
-use native.Mathlib.Nat.{zero-add, add-zero}
+use native.Mathlib.Nat.{zero-add, add-zero, sub-zero}
 use native.Mathlib.Omega.{arith}
 use lib.ListN.{length, take, drop, length-append, length-drop, take-append-drop}
-use lib.Seq.{take-at, drop-at, drop-drop, length-take-le}
-use Rattle.octets.specs.Octets.{over}
+use lib.Seq.{take-all, take-at, drop-at, drop-drop, length-take-le}
+use Rattle.octets.specs.Octets.{Bytes, over}
+use Rattle.blocks.specs.Blocks.{blockAt}
+use Rattle.blocks.proofs.Laws.{block-at}
 use Rattle.layout.specs.Layout.{headOf}
 use Rattle.layout.specs.declared.Head.{Head}
 use Rattle.header.specs.declared.Progress.{Progress}
 use Rattle.header.specs.declared.Reason.{Reason}
 use Rattle.header.specs.declared.Verdict.{Verdict}
 use Rattle.header.specs.declared.Verdict.the-variants.{Accepted, Refused}
-use Rattle.format.specs.Edition.{one}
-use Rattle.format.specs.Judge.{Keys, Standing, standing, advanced, taken, judge, BlockReader, ofEdition}
+use Rattle.format.specs.Judge.{taken, BlockReader}
 use Rattle.turns.specs.Turn.{Reading, later, onward, readBlocks, cut, blocksReadWith, blocksRead}
-use Rattle.turns.specs.Lent.{following}
+use Rattle.turns.specs.Lent.{following, stepped, partAfter, unstopped}
 use Rattle.turns.specs.declared.Stop.{Stop}
 use Rattle.turns.specs.declared.Stop.the-variants.{End, Asked, Lent, Room, At}
 use Rattle.turns.specs.declared.BlocksRead.{BlocksRead}
+use Rattle.turns.proofs.Stop.{the-type}
 
 -- a place counted from j blocks earlier
 laterBy : ℕ → Stop → Stop
@@ -48,7 +55,7 @@ later-none Room = refl
 -- a reading of the rest, after j blocks with so many bytes that left this output
 pub finish : (j bytes : ℕ) → List ℕ → Reading → BlocksRead × List ℕ
 finish j bytes out t = (
-  blocksReadWith (t .standing .progress) (j + t .accepted) (bytes + t .bytes) (laterBy j (t .stop)),
+  blocksReadWith (t .progress) (j + t .accepted) (bytes + t .bytes) (laterBy j (t .stop)),
   take (j * 480) out ++ (t .out ++ drop (j * 480 + length (t .out)) out),
 )
 
@@ -56,19 +63,19 @@ pub finish-start : (out : List ℕ) (t : Reading) → finish 0 0 out t ≡ (bloc
 unfolding finish
 finish-start out t = rw (zero-add (t .accepted), zero-add (t .bytes), later-none (t .stop), zero-add (length (t .out)))
 
-module _ (j bytes : ℕ) (out : List ℕ) (s : Standing) where
+module _ (j bytes : ℕ) (out : List ℕ) (s : Progress) where
   all-back : take (j * 480) out ++ drop (j * 480 + 0) out ≡ out
   all-back = ap (λ (n : ℕ). take (j * 480) out ++ drop n out) (add-zero (j * 480)) ∙ take-append-drop (j * 480) out
 
-  finish-none : (x y : Stop) → laterBy j x ≡ y → finish j bytes out (record { standing = s; accepted = 0; bytes = 0; stop = x; out = [] }) ≡ (blocksReadWith (s .progress) j bytes y, out)
+  finish-none : (x y : Stop) → laterBy j x ≡ y → finish j bytes out (record { progress = s; accepted = 0; bytes = 0; stop = x; out = [] }) ≡ (blocksReadWith s j bytes y, out)
   unfolding finish
-  finish-none x y e = rw (add-zero j, add-zero bytes, e) (ap (λ (o : List ℕ). (blocksReadWith (s .progress) j bytes y, o)) all-back)
+  finish-none x y e = rw (add-zero j, add-zero bytes, e) (ap (λ (o : List ℕ). (blocksReadWith s j bytes y, o)) all-back)
 
-  finish-end : finish j bytes out (record { standing = s; accepted = 0; bytes = 0; stop = End; out = [] }) ≡ (blocksReadWith (s .progress) j bytes End, out)
+  finish-end : finish j bytes out (record { progress = s; accepted = 0; bytes = 0; stop = End; out = [] }) ≡ (blocksReadWith s j bytes End, out)
   unfolding laterBy
   finish-end = finish-none End End refl
 
-  finish-refused : (reason : Reason) → finish j bytes out (record { standing = s; accepted = 0; bytes = 0; stop = At 0 reason; out = [] }) ≡ (blocksReadWith (s .progress) j bytes (At j reason), out)
+  finish-refused : (reason : Reason) → finish j bytes out (record { progress = s; accepted = 0; bytes = 0; stop = At 0 reason; out = [] }) ≡ (blocksReadWith s j bytes (At j reason), out)
   unfolding laterBy
   finish-refused reason = finish-none (At 0 reason) (At j reason) (ap (λ (n : ℕ). At n reason) (add-zero j))
 
@@ -96,28 +103,14 @@ module _ (j bytes : ℕ) (out : List ℕ) (s : Standing) where
     finish-accepted =
         let e : j + suc (t .accepted) ≡ j + 1 + t .accepted = omega arith in
         let f : bytes + (len + t .bytes) ≡ bytes + len + t .bytes = omega arith in
-        rw (e, f, later-one j (t .stop)) (ap (λ (o : List ℕ). (blocksReadWith (t .standing .progress) (j + 1 + t .accepted) (bytes + len + t .bytes) (laterBy (j + 1) (t .stop)), o)) out-accepted)
+        rw (e, f, later-one j (t .stop)) (ap (λ (o : List ℕ). (blocksReadWith (t .progress) (j + 1 + t .accepted) (bytes + len + t .bytes) (laterBy (j + 1) (t .stop)), o)) out-accepted)
 
 -- ---- one block more
 
--- a reader that asks nothing of the check before says the same wherever it stands with this progress
-abbrev pub Forgets : BlockReader → Type 0
-Forgets d = (s : Progress) (x y b : List ℕ) → d .verdict (record { progress = s; last = x }) b ≡ d .verdict (record { progress = s; last = y }) b
-
-module _ (d : BlockReader) (f : Forgets d) where
-  finish-forgets : (j bytes : ℕ) (out : List ℕ) (s : Progress) (x y : List ℕ) (bs : List (List ℕ))
-      → finish j bytes out (readBlocks d (record { progress = s; last = x }) bs) ≡ finish j bytes out (readBlocks d (record { progress = s; last = y }) bs)
-  unfolding readBlocks finish
-  finish-forgets j bytes out s x y [] = refl
-  finish-forgets j bytes out s x y (b ∷ bs) = rw (f s x y b) (go (d .verdict (record { progress = s; last = y }) b))
-    where
-      t : Reading
-      t = readBlocks d (record { progress = advanced s (headOf b); last = drop 496 b }) bs
-
-      go : (v : Verdict) → finish j bytes out (onward v (record { progress = s; last = x }) (headOf b .len) (d .plain b) t)
-          ≡ finish j bytes out (onward v (record { progress = s; last = y }) (headOf b .len) (d .plain b) t)
-      go Accepted = refl
-      go (Refused reason) = refl
+-- the length that a header says fits two bytes
+len-fits : (b : List ℕ) → Bytes b → headOf b .len ≤ 65535
+unfolding headOf
+len-fits b h = omega (arith, h 12, h 13)
 
 pub part-is : (bl : List ℕ) (j : ℕ) → take (j * 512 + 512 - j * 512) (drop (j * 512) bl) ≡ take 512 (drop (j * 512) bl)
 part-is bl j =
@@ -125,17 +118,17 @@ part-is bl j =
     ap (λ (n : ℕ). take n (drop (j * 512) bl)) e
 
 module _ (d : BlockReader) (bl : List ℕ) (s : Progress) (j n bytes : ℕ) (out : List ℕ) where
-  left : ℕ → Standing → Reading
+  left : ℕ → Progress → Reading
   left i p = readBlocks d p (cut (n - i) (drop (i * 512) bl))
 
-  pub left-end : n ≤ j → (blocksReadWith s j bytes End, out) ≡ finish j bytes out (readBlocks d (standing s) (cut (n - j) (drop (j * 512) bl)))
+  pub left-end : n ≤ j → (blocksReadWith s j bytes End, out) ≡ finish j bytes out (readBlocks d s (cut (n - j) (drop (j * 512) bl)))
   unfolding readBlocks cut
   left-end h =
       let e : n - j ≡ 0 = omega arith in
-      rw e (sym (finish-end j bytes out (standing s)))
+      rw e (sym (finish-end j bytes out s))
 
-  module _ (h : j < n) (b : List ℕ) (eb : b ≡ take 512 (drop (j * 512) bl)) (v : Verdict) (ev : v ≡ d .verdict (standing s) b) where
-    left-step : left j (standing s) ≡ onward v (standing s) (headOf b .len) (d .plain b) (left (j + 1) (taken (standing s) b))
+  module _ (h : j < n) (b : List ℕ) (eb : b ≡ take 512 (drop (j * 512) bl)) (v : Verdict) (ev : v ≡ d .verdict s b) where
+    left-step : left j s ≡ onward v s (headOf b .len) (d .plain b) (left (j + 1) (taken s b))
     unfolding left readBlocks cut
     left-step =
         let e : n - j ≡ suc (n - (j + 1)) = omega arith in
@@ -143,30 +136,23 @@ module _ (d : BlockReader) (bl : List ℕ) (s : Progress) (j n bytes : ℕ) (out
         let q : drop ((j + 1) * 512) bl ≡ drop 512 (drop (j * 512) bl) = ap (λ (m : ℕ). drop m bl) i ∙ sym (drop-drop 512 (j * 512) bl) in
         rw (e, q, ev, eb)
 
-    pub step-refused : (reason : Reason) → v ≡ Refused reason → (blocksReadWith s j bytes (At j reason), out) ≡ finish j bytes out (readBlocks d (standing s) (cut (n - j) (drop (j * 512) bl)))
+    pub step-refused : (reason : Reason) → v ≡ Refused reason → (blocksReadWith s j bytes (At j reason), out) ≡ finish j bytes out (readBlocks d s (cut (n - j) (drop (j * 512) bl)))
     unfolding left
     step-refused reason e =
-        let q : left j (standing s) ≡ record { standing = standing s; accepted = 0; bytes = 0; stop = At 0 reason; out = [] } =
-        left-step ∙ ap (λ (x : Verdict). onward x (standing s) (headOf b .len) (d .plain b) (left (j + 1) (taken (standing s) b))) e in
-        sym (ap (finish j bytes out) q ∙ finish-refused j bytes out (standing s) reason)
+        let q : left j s ≡ record { progress = s; accepted = 0; bytes = 0; stop = At 0 reason; out = [] } =
+        left-step ∙ ap (λ (x : Verdict). onward x s (headOf b .len) (d .plain b) (left (j + 1) (taken s b))) e in
+        sym (ap (finish j bytes out) q ∙ finish-refused j bytes out s reason)
 
-    pub step-accepted : Forgets d → v ≡ Accepted → length (d .plain b) ≡ 480 → j * 480 + 480 ≤ length out → s .next < 65535
-        → (head : Head) (next : Progress) (new : List ℕ) → head ≡ headOf b → next ≡ following s head → new ≡ take (j * 480) out ++ (d .plain b ++ drop (j * 480 + 480) out)
-        → finish (j + 1) (bytes + head .len) new (readBlocks d (standing next) (cut (n - (j + 1)) (drop ((j + 1) * 512) bl))) ≡ finish j bytes out (readBlocks d (standing s) (cut (n - j) (drop (j * 512) bl)))
+    pub step-accepted : v ≡ Accepted → length (d .plain b) ≡ 480 → j * 480 + 480 ≤ length out → s .next < 65535
+        → (new : List ℕ) → new ≡ take (j * 480) out ++ (d .plain b ++ drop (j * 480 + 480) out)
+        → finish (j + 1) (bytes + headOf b .len) new (readBlocks d (following s (headOf b) (drop 496 b)) (cut (n - (j + 1)) (drop ((j + 1) * 512) bl))) ≡ finish j bytes out (readBlocks d s (cut (n - j) (drop (j * 512) bl)))
     unfolding left
-    step-accepted f e size room small head next new eh en eo =
+    step-accepted e size room small new eo =
         let k : (s .next + 1) % 4294967296 ≡ s .next + 1 = omega arith in
-        let p : next ≡ advanced s (headOf b) = en ∙ rw (eh, k) in
-        let t = left (j + 1) (taken (standing s) b) in
-        ap₂ (λ (x : Progress) (y : Head). finish (j + 1) (bytes + y .len) new (left (j + 1) (standing x))) p eh
-        ∙ finish-forgets d f (j + 1) (bytes + headOf b .len) new (advanced s (headOf b)) (standing s .last) (drop 496 b) (cut (n - (j + 1)) (drop ((j + 1) * 512) bl))
-        ∙ sym (ap (finish j bytes out) (left-step ∙ ap (λ (x : Verdict). onward x (standing s) (headOf b .len) (d .plain b) t) e)
-        ∙ finish-accepted j bytes out (standing s) (headOf b .len) (d .plain b) t size room new eo)
-
--- edition 1 does
-pub one-forgets : (k : Keys) → Forgets (ofEdition k one)
-unfolding judge
-one-forgets k s x y b = refl
+        let t = left (j + 1) (taken s b) in
+        rw k
+        (sym (ap (finish j bytes out) (left-step ∙ ap (λ (x : Verdict). onward x s (headOf b .len) (d .plain b) t) e)
+        ∙ finish-accepted j bytes out s (headOf b .len) (d .plain b) t size room new eo))
 
 -- what a part of an output that was lent leaves of the whole
 pub part-put : (out : List ℕ) (at : ℕ) (x plain o : List ℕ) → x ≡ plain → o ≡ take at out ++ (x ++ drop (at + 480 - at) (drop at out)) → o ≡ take at out ++ (plain ++ drop (at + 480) out)
@@ -181,3 +167,118 @@ pub part-keeps : (out : List ℕ) (at : ℕ) (plain o : List ℕ) → at + 480 �
 part-keeps out at plain o h size e =
     ap length e ∙ length-append (take at out) (plain ++ drop (at + 480) out)
     ∙ omega (arith, length-take-le at out (omega arith), length-append plain (drop (at + 480) out), length-drop (at + 480) out)
+
+-- what the code reads of a block is the block's own
+pub check-is : (b check : List ℕ) → length b ≡ 512 → check ≡ blockAt b 496 → check ≡ drop 496 b
+check-is b check size e = e ∙ block-at b 496 (omega arith) ∙ take-all 16 (drop 496 b) (omega (arith, length-drop 496 b))
+
+pub stepped-by : (t : BlocksRead) (v w : Verdict) (h g : Head) (x y : List ℕ) → v ≡ w → h ≡ g → x ≡ y → stepped v t h x ≡ stepped w t g y
+stepped-by t v w h g x y ev eh ex = rw (ev, eh, ex)
+
+-- ---- a turn on its way
+
+-- what it is to end with: the blocks that are left, unless one has stopped it
+aheadBy : Stop → BlockReader → (bl : List ℕ) (n : ℕ) → BlocksRead → List ℕ → BlocksRead × List ℕ
+aheadBy End d bl n t out = finish (t .accepted) (t .bytes) out (readBlocks d (t .progress) (cut (n - t .accepted) (drop (t .accepted * 512) bl)))
+aheadBy Asked d bl n t out = (t, out)
+aheadBy Lent d bl n t out = (t, out)
+aheadBy Room d bl n t out = (t, out)
+aheadBy (At place reason) d bl n t out = (t, out)
+
+pub ahead : BlockReader → (bl : List ℕ) (n : ℕ) → BlocksRead → List ℕ → BlocksRead × List ℕ
+ahead d bl n t out = aheadBy (t .stop) d bl n t out
+
+-- how many blocks it may still take, and one more
+leftBy : Stop → ℕ → ℕ
+leftBy End k = suc k
+leftBy Asked k = 0
+leftBy Lent k = 0
+leftBy Room k = 0
+leftBy (At place reason) k = 0
+
+pub toGo : BlocksRead → ℕ → ℕ
+toGo t n = leftBy (t .stop) (n - t .accepted)
+
+pub ahead-start : (d : BlockReader) (bl : List ℕ) (n : ℕ) (s : Progress) (out : List ℕ) (t : BlocksRead) → t ≡ blocksReadWith s 0 0 End
+    → ahead d bl n t out ≡ finish 0 0 out (readBlocks d s (cut n bl))
+unfolding ahead aheadBy
+ahead-start d bl n s out t e = rw e (ap (λ (k : ℕ). finish 0 0 out (readBlocks d s (cut k bl))) (sub-zero n))
+
+goes : (x : Stop) (u : Bool) → (unstopped x && u) ≡ true → (x ≡ End) × (u ≡ true)
+goes End u e = (refl, e)
+goes Asked u e = let y : _≡_ {A = ℕ} 0 1 = cc in absurd (omega arith)
+goes Lent u e = let y : _≡_ {A = ℕ} 0 1 = cc in absurd (omega arith)
+goes Room u e = let y : _≡_ {A = ℕ} 0 1 = cc in absurd (omega arith)
+goes (At place reason) u e = let y : _≡_ {A = ℕ} 0 1 = cc in absurd (omega arith)
+
+-- where something has, it does not go on
+pub stopped-not : (x : Stop) (u : Bool) → OneOf (1 ∷ 2 ∷ 3 ∷ 4 ∷ []) (tagOf the-type x) → false ≡ (unstopped x && u)
+stopped-not End u h = absurd (miss (1 ∷ 2 ∷ 3 ∷ 4 ∷ []) 0 tt h)
+stopped-not Asked u h = refl
+stopped-not Lent u h = refl
+stopped-not Room u h = refl
+stopped-not (At place reason) u h = refl
+
+pub goes-on : (t : BlocksRead) (n : ℕ) → (unstopped (t .stop) && ltb (t .accepted) n) ≡ true → (t .stop ≡ End) × (t .accepted < n)
+goes-on t n e = let g = goes (t .stop) (ltb (t .accepted) n) e in (g .0, ltb-true (t .accepted) n (g .1))
+
+pub ahead-end : (d : BlockReader) (bl : List ℕ) (n : ℕ) (t : BlocksRead) (out : List ℕ) → (unstopped (t .stop) && ltb (t .accepted) n) ≡ false → (t, out) ≡ ahead d bl n t out
+unfolding ahead aheadBy
+ahead-end d bl n t out e = go (t .stop) refl e
+  where
+    go : (x : Stop) → t .stop ≡ x → (unstopped x && ltb (t .accepted) n) ≡ false → (t, out) ≡ aheadBy x d bl n t out
+    go End q f =
+        ap (λ (x : Stop). (blocksReadWith (t .progress) (t .accepted) (t .bytes) x, out)) q ∙ left-end d bl (t .progress) (t .accepted) n (t .bytes) out (ltb-false (t .accepted) n f)
+    go Asked q f = refl
+    go Lent q f = refl
+    go Room q f = refl
+    go (At place reason) q f = refl
+
+-- one block more
+module _ (d : BlockReader) (bl : List ℕ) (n : ℕ) (t : BlocksRead) (out : List ℕ) (going : t .stop ≡ End) (h : t .accepted < n)
+    (b : List ℕ) (eb : b ≡ take 512 (drop (t .accepted * 512) bl)) (bytes : Bytes b) (size : length (d .plain b) ≡ 480) (room : t .accepted * 480 + 480 ≤ length out)
+    (new : BlocksRead) (en : new ≡ stepped (d .verdict (t .progress) b) t (headOf b) (drop 496 b))
+    (x y o : List ℕ) (ex : x ≡ take (t .accepted * 480 + 480 - t .accepted * 480) (drop (t .accepted * 480) out)) (ey : y ≡ partAfter (d .verdict (t .progress) b) (d .plain b) x)
+    (eo : o ≡ take (t .accepted * 480) out ++ (y ++ drop (t .accepted * 480 + 480 - t .accepted * 480) (drop (t .accepted * 480) out))) where
+  -- a part that was not written leaves the output as it was
+  part-back : y ≡ x → o ≡ out
+  part-back e =
+      let m : t .accepted * 480 + 480 - t .accepted * 480 ≡ 480 = omega arith in
+      eo ∙ rw (e, ex, m) (ap (λ (z : List ℕ). take (t .accepted * 480) out ++ z) (take-append-drop 480 (drop (t .accepted * 480) out)) ∙ take-append-drop (t .accepted * 480) out)
+
+  by-verdict : (P : BlocksRead → List ℕ → Type 0)
+      → (d .verdict (t .progress) b ≡ Accepted → (o ≡ take (t .accepted * 480) out ++ (d .plain b ++ drop (t .accepted * 480 + 480) out)) → P (blocksReadWith (following (t .progress) (headOf b) (drop 496 b)) (t .accepted + 1) (t .bytes + headOf b .len) End) o)
+      → ((reason : Reason) → d .verdict (t .progress) b ≡ Refused reason → P (blocksReadWith (t .progress) (t .accepted) (t .bytes) (At (t .accepted) reason)) out)
+      → P new o
+  by-verdict P good bad = go (d .verdict (t .progress) b) refl
+    where
+      go : (v : Verdict) → d .verdict (t .progress) b ≡ v → P new o
+      go Accepted q =
+          let e : new ≡ blocksReadWith (following (t .progress) (headOf b) (drop 496 b)) (t .accepted + 1) (t .bytes + headOf b .len) End =
+          en ∙ ap₂ (λ (v : Verdict) (z : Stop). stepped v (blocksReadWith (t .progress) (t .accepted) (t .bytes) z) (headOf b) (drop 496 b)) q going in
+          rw e (good q (part-put out (t .accepted * 480) y (d .plain b) o (ey ∙ ap (λ (v : Verdict). partAfter v (d .plain b) x) q) eo))
+      go (Refused reason) q =
+          let e : new ≡ blocksReadWith (t .progress) (t .accepted) (t .bytes) (At (t .accepted) reason) = en ∙ ap (λ (v : Verdict). stepped v t (headOf b) (drop 496 b)) q in
+          rw (e, part-back (ey ∙ ap (λ (v : Verdict). partAfter v (d .plain b) x) q)) (bad reason q)
+
+  pub step-keeps : length o ≡ length out
+  step-keeps = by-verdict (λ (u : BlocksRead) (z : List ℕ). length z ≡ length out) (λ q e. part-keeps out (t .accepted * 480) (d .plain b) o room size e) (λ reason q. refl)
+
+  pub step-within : t .bytes ≤ t .accepted * 65535 → (new .accepted ≤ n) × (new .bytes ≤ new .accepted * 65535)
+  step-within w =
+      by-verdict (λ (u : BlocksRead) (z : List ℕ). (u .accepted ≤ n) × (u .bytes ≤ u .accepted * 65535))
+      (λ q e. (omega arith, omega (arith, len-fits b bytes))) (λ reason q. (omega arith, w))
+
+  pub step-less : toGo new n < toGo t n
+  unfolding toGo leftBy
+  step-less =
+      rw going
+      (by-verdict (λ (u : BlocksRead) (z : List ℕ). leftBy (u .stop) (n - u .accepted) < suc (n - t .accepted)) (λ q e. omega arith) (λ reason q. omega arith))
+
+  pub step-ahead : (d .verdict (t .progress) b ≡ Accepted → t .progress .next < 65535) → ahead d bl n new o ≡ ahead d bl n t out
+  unfolding ahead aheadBy
+  step-ahead small =
+      rw going
+      (by-verdict (λ (u : BlocksRead) (z : List ℕ). aheadBy (u .stop) d bl n u z ≡ finish (t .accepted) (t .bytes) out (readBlocks d (t .progress) (cut (n - t .accepted) (drop (t .accepted * 512) bl))))
+      (λ q e. step-accepted d bl (t .progress) (t .accepted) n (t .bytes) out h b eb _ refl q size room (small q) o e)
+      (λ reason q. step-refused d bl (t .progress) (t .accepted) n (t .bytes) out h b eb _ refl reason q))

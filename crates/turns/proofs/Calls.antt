@@ -9,8 +9,7 @@ use lib.Dec.{eqb, ltb, leb}
 use lib.ListN.{length}
 use Rattle.octets.specs.Octets.{over}
 use Rattle.header.specs.declared.Progress.{Progress}
-use Rattle.format.specs.Edition.{one}
-use Rattle.format.specs.Judge.{Keys, standing, ofEdition}
+use Rattle.format.specs.Judge.{Keys, ofBoth}
 use Rattle.turns.specs.Turn.{readBlocks, cut, handled, whole, blocksRead, turnUnder}
 use Rattle.turns.specs.declared.BlocksRead.{BlocksRead}
 use Rattle.turns.specs.declared.Stop.the-variants.{Asked, Lent, Room}
@@ -37,8 +36,8 @@ module _ (n : Keys) (s : Progress) (given : List ℕ) (asked : ℕ) (out : List 
       unfolding turnUnder
       turn-room e3 = let f : ltb (length out) (handled given asked * 480) ≡ true = rw (← ek) e3 in rw (e1, e2, f)
 
-      pub turn-read : ltb (length out) (k * 480) ≡ false → (t : BlocksRead) (o : List ℕ) → t ≡ blocksRead (readBlocks (ofEdition n one) (standing s) (cut k given))
-          → o ≡ over (readBlocks (ofEdition n one) (standing s) (cut k given) .out) out → (t, o) ≡ turnUnder n s given asked out
+      pub turn-read : ltb (length out) (k * 480) ≡ false → (t : BlocksRead) (o : List ℕ) → t ≡ blocksRead (readBlocks (ofBoth n) s (cut k given))
+          → o ≡ over (readBlocks (ofBoth n) s (cut k given) .out) out → (t, o) ≡ turnUnder n s given asked out
       unfolding turnUnder
       turn-read e3 t o et eo =
           let f : ltb (length out) (handled given asked * 480) ≡ false = rw (← ek) e3 in

@@ -12,18 +12,17 @@ use Rattle.header.specs.Rules.{reasonNumber}
 use Rattle.header.specs.declared.Progress.{Progress}
 use Rattle.header.specs.declared.Verdict.{Verdict}
 use Rattle.header.specs.declared.Verdict.the-variants.{Accepted, Refused}
-use Rattle.format.specs.Edition.{one}
-use Rattle.format.specs.Judge.{Keys, Standing, standing, BlockReader, ofEdition, taken}
+use Rattle.format.specs.Judge.{Keys, BlockReader, ofBoth, taken}
 use Rattle.format.specs.Lent.{usable}
 use Rattle.format.specs.declared.Rounds.{Rounds}
 use Rattle.turns.specs.declared.BlocksRead.{BlocksRead}
 use Rattle.turns.specs.declared.Stop.{Stop}
 use Rattle.turns.specs.declared.Stop.the-variants.{End, Asked, Lent, Room, At}
 
--- how far the blocks were taken: where the reader stands after them, how many were accepted, the sum of their payload lengths,
+-- how far the blocks were taken: how far the reader has come after them, how many were accepted, the sum of their payload lengths,
 -- how it stopped, and the bytes handed out
 pub record Reading : Type 0 where
-  pub standing : Standing
+  pub progress : Progress
   pub accepted : ℕ
   pub bytes : ℕ
   pub stop : Stop
@@ -38,18 +37,18 @@ later Lent = Lent
 later Room = Room
 
 -- an accepted block comes before what was read after it; a refused one ends the turn and changes nothing
-abbrev pub onward : Verdict → Standing → (len : ℕ) (plain : List ℕ) → Reading → Reading
+abbrev pub onward : Verdict → Progress → (len : ℕ) (plain : List ℕ) → Reading → Reading
 onward Accepted s len plain t = record {
-  standing = t .standing;
+  progress = t .progress;
   accepted = suc (t .accepted);
   bytes = len + t .bytes;
   stop = later (t .stop);
   out = plain ++ t .out;
 }
-onward (Refused reason) s len plain t = record { standing = s; accepted = 0; bytes = 0; stop = At 0 reason; out = [] }
+onward (Refused reason) s len plain t = record { progress = s; accepted = 0; bytes = 0; stop = At 0 reason; out = [] }
 
-unfoldable pub readBlocks : BlockReader → Standing → List (List ℕ) → Reading
-readBlocks d s [] = record { standing = s; accepted = 0; bytes = 0; stop = End; out = [] }
+unfoldable pub readBlocks : BlockReader → Progress → List (List ℕ) → Reading
+readBlocks d s [] = record { progress = s; accepted = 0; bytes = 0; stop = End; out = [] }
 readBlocks d s (b ∷ bs) = onward (d .verdict s b) s (headOf b .len) (d .plain b) (readBlocks d (taken s b) bs)
 
 -- the first n blocks of what was lent
@@ -67,15 +66,15 @@ keysUnder ewords cwords n = record { enc = standard ewords (n .enc); mac = cmac 
 abbrev pub handled : (lent : List ℕ) (asked : ℕ) → ℕ
 handled lent asked = min asked (length lent / blockSize)
 
--- it reads edition 1
+-- it reads both editions
 abbrev pub readingBy : Keys → Progress → (lent : List ℕ) (asked : ℕ) → Reading
-readingBy k s lent asked = readBlocks (ofEdition k one) (standing s) (cut (handled lent asked) lent)
+readingBy k s lent asked = readBlocks (ofBoth k) s (cut (handled lent asked) lent)
 
 abbrev pub blocksReadWith : Progress → (accepted bytes : ℕ) → Stop → BlocksRead
 blocksReadWith s accepted bytes stop = record { progress = s; accepted = accepted; bytes = bytes; stop = stop }
 
 abbrev pub blocksRead : Reading → BlocksRead
-blocksRead t = blocksReadWith (t .standing .progress) (t .accepted) (t .bytes) (t .stop)
+blocksRead t = blocksReadWith (t .progress) (t .accepted) (t .bytes) (t .stop)
 
 -- a turn that is refused as a whole
 abbrev pub whole : Progress → Stop → BlocksRead

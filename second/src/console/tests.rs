@@ -77,22 +77,34 @@ fn schedule_shows_sixty_words() {
 fn refused_lines_give_zeros_or_the_lent_output() {
     assert_eq!(answer(&format!("encrypt 00 {ZEROS}")), format!("1 {ZEROS}"));
     assert_eq!(answer("check - -"), format!("1 {ZEROS}"));
+    for (words, number) in [
+        ("- 00".to_string(), 2),
+        (format!("{ZEROS} 00"), 3),
+        (format!("{ZEROS} {ZEROS}"), 4),
+    ] {
+        assert_eq!(
+            answer(&format!("cbc-encrypt {KEY} {words} aa")),
+            format!("{number} {ZEROS} aa")
+        );
+    }
     assert_eq!(
-        answer(&format!("cbc-encrypt {KEY} - 00 aa")),
-        format!("2 {ZEROS} aa")
+        answer(&format!("write {KEY} {KEY} 0 0 0 3 {ZEROS} - aa")),
+        "7 aa"
     );
     assert_eq!(
-        answer(&format!("cbc-encrypt {KEY} {ZEROS} 00 aa")),
-        format!("3 {ZEROS} aa")
+        answer(&format!("write {KEY} {KEY} 1 1 0 3 {ZEROS} - aa")),
+        "8 aa"
     );
     assert_eq!(
-        answer(&format!("cbc-encrypt {KEY} {ZEROS} {ZEROS} aa")),
-        format!("4 {ZEROS} aa")
+        answer(&format!("write {KEY} {KEY} 0 2 0 3 {ZEROS} - aa")),
+        "12 aa"
     );
-    assert_eq!(answer(&format!("write {KEY} {KEY} 0 0 0 - aa")), "7 aa");
-    assert_eq!(answer(&format!("write {KEY} {KEY} 1 1 0 - aa")), "8 aa");
-    assert_eq!(answer(&format!("write {KEY} {KEY} 0 2 0 - aa")), "12 aa");
-    assert_eq!(answer(&format!("write {KEY} {KEY} 0 1 0 - aa")), "4 aa");
+    for (edition, number) in [("0", "13"), ("3", "13"), ("1", "4"), ("002", "4")] {
+        assert_eq!(
+            answer(&format!("write {KEY} {KEY} 0 1 0 {edition} {ZEROS} - aa")),
+            format!("{number} aa")
+        );
+    }
     assert_eq!(answer("wrap 00 00 aa"), "1 aa");
     assert_eq!(answer(&format!("wrap {KEY} 00 aa")), "18 aa");
     assert_eq!(answer(&format!("wrap {KEY} {ZEROS} aa")), "4 aa");
@@ -132,8 +144,15 @@ fn bad_lines() {
         "read-turn +1 - -",
         "read-turn 0x1 - -",
         "read-turn 18446744073709551616 - -",
-        "write - - 4294967296 0 0 - -",
-        "write - - 0 0 0 -",
+        "write - - 4294967296 0 0 1 00000000000000000000000000000000 - -",
+        "write - - 0 0 0 4294967296 00000000000000000000000000000000 - -",
+        "write - - 0 0 0 - 00000000000000000000000000000000 - -",
+        "write - - 0 0 0 1 - - -",
+        "write - - 0 0 0 1 000000000000000000000000000000 - -",
+        "write - - 0 0 0 1 0000000000000000000000000000000000 - -",
+        "write - - 0 0 0 1 00000000000000000000000000000000 -",
+        "write - - 0 0 0 1 00000000000000000000000000000000 - - -",
+        "write - - 0 0 0 - -",
         "wrap - -",
         "wrap - - - -",
         "wrap 0 - -",
@@ -155,7 +174,12 @@ fn numbers_are_judged_by_value() {
         answer("read-turn 0000000000000000000000000128 - -"),
         "0 0 0 - - - -"
     );
-    assert_eq!(answer("write - - 4294967295 0004294967295 0 - -"), "1 -");
+    assert_eq!(
+        answer(&format!(
+            "write - - 4294967295 0004294967295 0 004294967295 {ZEROS} - -"
+        )),
+        "1 -"
+    );
 }
 
 #[test]
@@ -180,7 +204,7 @@ fn running_check_is_held() {
 #[test]
 fn reader_is_held() {
     let write = answer(&format!(
-        "write {KEY} {KEY} 0 1 9 abcd {}",
+        "write {KEY} {KEY} 0 1 9 2 {KEY} abcd {}",
         "55".repeat(512)
     ));
     let block = write.strip_prefix("0 ").unwrap();

@@ -3,8 +3,9 @@
 use super::plan::Plan;
 use super::rng::Rng;
 use super::wraps::{unwrap_words, wrap_words};
+use crate::aes::Block;
 use crate::hex::shown;
-use crate::image::{BLOCK, PAYLOAD};
+use crate::image::{BLOCK, NO_CHECK, PAYLOAD};
 
 #[derive(Clone, Copy)]
 pub struct Call {
@@ -53,6 +54,10 @@ pub struct Draw {
     pub plan: Plan,
     /// The number of the block that the reader expects by now.
     pub expected: u32,
+    /// The check of the block that it accepted last.
+    pub last: Block,
+    /// The last block of the turn before.
+    offered: Vec<u8>,
 }
 
 impl Draw {
@@ -61,6 +66,8 @@ impl Draw {
             rng: Rng::new(seed),
             plan: Plan::default(),
             expected: 0,
+            last: NO_CHECK,
+            offered: Vec::new(),
         }
     }
 
@@ -201,15 +208,39 @@ fn write_words(draw: &mut Draw) -> Vec<String> {
         _ => draw.rng.below(PAYLOAD + 1),
     };
     let release = draw.rng.word();
+    let edition = edition(&mut draw.rng);
     vec![
         draw.key(),
         draw.key(),
         draw.numeral(number.into()),
         draw.numeral(count.into()),
         draw.numeral(release.into()),
+        draw.numeral(edition.into()),
+        previous_check(draw),
         draw.hex(length),
         draw.output(BLOCK),
     ]
+}
+
+/// Mostly one that there is; of the others some would pass in fewer bits.
+fn edition(rng: &mut Rng) -> u32 {
+    match rng.below(12) {
+        0 => rng.pick([0, 3, 4, 256, 258, 65_537, 65_538, u32::MAX]),
+        1..=4 => 1,
+        _ => 2,
+    }
+}
+
+/// Seldom zeros, for number 0 too.
+fn previous_check(draw: &mut Draw) -> String {
+    match draw.rng.below(30) {
+        0 => {
+            let length = draw.rng.pick([0, 1, 15, 17, 32]);
+            draw.hex(length)
+        }
+        1..=3 => shown(&NO_CHECK),
+        _ => draw.hex(NO_CHECK.len()),
+    }
 }
 
 fn start_words(draw: &mut Draw) -> Vec<String> {
@@ -223,9 +254,14 @@ fn start_words(draw: &mut Draw) -> Vec<String> {
 fn turn_words(draw: &mut Draw) -> Vec<String> {
     let lent = blocks_lent(&mut draw.rng);
     let asked = blocks_asked(&mut draw.rng);
-    let handled = lent.min(usize::try_from(asked).unwrap_or(lent));
     let first = first_offered(&mut draw.rng, draw.expected);
-    let blocks = draw.plan.blocks(&mut draw.rng, first, lent);
+    let mut blocks = draw.plan.blocks(&mut draw.rng, first, draw.last, lent);
+    if draw.rng.below(40) == 0 {
+        blocks = [&draw.offered[..], &blocks].concat();
+    }
+    let lent = blocks.len() / BLOCK;
+    draw.offered = blocks[blocks.len() - BLOCK.min(blocks.len())..].to_vec();
+    let handled = lent.min(usize::try_from(asked).unwrap_or(lent));
     let blocks = mostly_whole(&mut draw.rng, blocks);
     vec![
         draw.numeral(asked),

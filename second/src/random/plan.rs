@@ -1,11 +1,15 @@
-//! Images to be read in random turns: blocks that are accepted, and damaged ones.
+//! Images of both editions to be read in random turns: blocks that are accepted, damaged ones, and those of two builds mixed.
 
 use super::calls::key;
 use super::rng::Rng;
-use crate::image::{filled, Header, Keys, BLOCK, PAYLOAD};
+use crate::aes::Block;
+use crate::image::{check_in, filled, tail, Edition, Header, Keys, BLOCK, NO_CHECK, PAYLOAD};
 
 /// How many of a hundred blocks are damaged.
 const DAMAGED: usize = 18;
+
+/// How many of a hundred turns bring whole blocks in a wrong order, or blocks of two builds.
+const SHUFFLED: usize = 12;
 
 #[derive(Clone, Default)]
 pub struct Plan {
@@ -13,6 +17,7 @@ pub struct Plan {
     pub check_key: Vec<u8>,
     count: u32,
     release: u32,
+    mark: u16,
 }
 
 /// A block before it is sealed.
@@ -20,6 +25,10 @@ struct Draft {
     encryption_key: Vec<u8>,
     header: Header,
     filled: [u8; PAYLOAD],
+    previous: Block,
+    /// Covered as a block of the other edition is.
+    crossed: bool,
+    marked_after_sealing: Option<u16>,
     flipped_after_sealing: Option<usize>,
 }
 
@@ -41,6 +50,7 @@ impl Plan {
             check_key,
             count: count as u32,
             release: rng.word(),
+            mark: rng.pick([Edition::First, Edition::Second]).mark(),
         }
     }
 
@@ -48,16 +58,59 @@ impl Plan {
         self.count
     }
 
-    /// Blocks one after another, from the number given.
-    pub fn blocks(&self, rng: &mut Rng, first: u32, blocks: usize) -> Vec<u8> {
+    /// Blocks one after another, from the number given, for a reader whose last check is the one given.
+    pub fn blocks(&self, rng: &mut Rng, first: u32, last: Block, blocks: usize) -> Vec<u8> {
+        let mut made = self.chain(rng, first, last, blocks);
+        if blocks > 0 && rng.percent(SHUFFLED) {
+            self.shuffle(rng, first, &mut made);
+        }
+        made.concat()
+    }
+
+    /// Each block is sealed on the check of the one before it.
+    fn chain(&self, rng: &mut Rng, first: u32, last: Block, blocks: usize) -> Vec<Vec<u8>> {
+        let mut previous = last;
         (first..)
             .take(blocks)
-            .flat_map(|number| self.block(rng, number))
+            .map(|number| {
+                let block = self.block(rng, number, previous);
+                previous = check_in(&block);
+                block
+            })
             .collect()
     }
 
-    fn block(&self, rng: &mut Rng, number: u32) -> Vec<u8> {
-        let mut draft = self.right_draft(rng, number);
+    /// One block doubled, left out, or changed with the next; or another build's blocks from a place on.
+    fn shuffle(&self, rng: &mut Rng, first: u32, made: &mut Vec<Vec<u8>>) {
+        let (place, blocks) = (rng.below(made.len()), made.len());
+        match rng.below(5) {
+            0 => made.insert(place, made[place].clone()),
+            1 => {
+                made.remove(place);
+            }
+            2 => made.swap(place, (place + 1).min(blocks - 1)),
+            _ => {
+                let number = first.wrapping_add(place as u32);
+                let last = self.check_of_other_build(rng, number);
+                made.truncate(place);
+                made.extend(self.chain(rng, number, last, blocks - place));
+            }
+        }
+        made.truncate(blocks);
+    }
+
+    /// The check that another build of this count and release has before a number.
+    fn check_of_other_build(&self, rng: &mut Rng, number: u32) -> Block {
+        let before = number.checked_sub(1).and_then(|before| {
+            let previous = any_check(rng);
+            self.right_draft(rng, before, previous)
+                .sealed(&self.check_key)
+        });
+        before.map_or(NO_CHECK, |block| check_in(&block))
+    }
+
+    fn block(&self, rng: &mut Rng, number: u32, previous: Block) -> Vec<u8> {
+        let mut draft = self.right_draft(rng, number, previous);
         if rng.percent(DAMAGED) {
             for _ in 0..rng.pick([1, 1, 1, 2, 3]) {
                 draft.damage(rng);
@@ -69,19 +122,22 @@ impl Plan {
             .unwrap_or_else(|| rng.bytes(BLOCK))
     }
 
-    fn right_draft(&self, rng: &mut Rng, number: u32) -> Draft {
+    fn right_draft(&self, rng: &mut Rng, number: u32, previous: Block) -> Draft {
         let length = self.right_length(rng, number);
         let header = Header {
             number,
             count: self.count,
             release: self.release,
             length: length as u16,
-            reserved: 0,
+            mark: self.mark,
         };
         Draft {
             encryption_key: self.encryption_key.clone(),
             header,
             filled: filled(&rng.bytes(length)).unwrap_or([0; PAYLOAD]),
+            previous,
+            crossed: false,
+            marked_after_sealing: None,
             flipped_after_sealing: None,
         }
     }
@@ -102,18 +158,24 @@ impl Draft {
             number,
             count,
             release,
+            mark,
             ..
         } = self.header;
-        match rng.below(10) {
+        match rng.below(15) {
             0 => self.header.number = rng.pick([number.wrapping_add(1), number.wrapping_sub(1)]),
             1 => self.header.number = rng.word(),
             2 => self.header.count = rng.pick([0, 65_536, u32::MAX]),
             3 => self.header.count = rng.pick([count.wrapping_add(1), count.wrapping_sub(1)]),
             4 => self.header.release = release ^ 1 << rng.below(32),
             5 => self.header.length = rng.pick([0, 1, 479, 480, 481, 512, u16::MAX]),
-            6 => self.header.reserved = rng.pick([1, 256, u16::MAX]),
+            6 => self.header.mark = odd_mark(rng),
             7 => self.spoil_fill(rng),
             8 => self.encryption_key = key(rng),
+            9 => self.header.mark = mark ^ 2,
+            10 => self.marked_after_sealing = Some(mark ^ 2),
+            11 => self.previous = any_check(rng),
+            12 => self.crossed = true,
+            13 => self.marked_after_sealing = Some(odd_mark(rng)),
             _ => self.flipped_after_sealing = Some(rng.below(8 * BLOCK)),
         }
     }
@@ -129,10 +191,28 @@ impl Draft {
 
     fn sealed(&self, check_key: &[u8]) -> Option<Vec<u8>> {
         let keys = Keys::new(&self.encryption_key, check_key).ok()?;
-        let mut block = keys.seal(&self.header, &self.filled);
+        let covered_as = if self.crossed { 2 } else { 0 } ^ self.header.mark;
+        let tail = tail(covered_as, &self.previous);
+        let mut block = keys.seal_over(&self.header, &self.filled, tail);
+        if let Some(mark) = self.marked_after_sealing {
+            block[14..16].copy_from_slice(&mark.to_be_bytes());
+        }
         if let Some(bit) = self.flipped_after_sealing {
             *block.get_mut(bit / 8)? ^= 1 << (bit % 8);
         }
         Some(block)
     }
+}
+
+/// A mark of no edition.
+fn odd_mark(rng: &mut Rng) -> u16 {
+    rng.pick([1, 3, 4, 256, 258, 512, u16::MAX])
+}
+
+/// A check that the reader's last one is not, but for zeros in a fresh reader.
+fn any_check(rng: &mut Rng) -> Block {
+    if rng.percent(40) {
+        return NO_CHECK;
+    }
+    NO_CHECK.map(|_| rng.byte())
 }

@@ -1,10 +1,11 @@
-//! Turns of up to 200 blocks, and an image of the most blocks there can be: lines in the console's form, but longer than it takes, and
-//! their answers.
+//! Turns of up to 200 blocks of both editions, and an image of the most blocks there can be: lines in the console's form, but longer
+//! than it takes, and their answers.
 
 use super::rng::Rng;
+use crate::aes::Block;
 use crate::console::Console;
 use crate::hex::shown;
-use crate::image::{filled, Header, Keys, BLOCK, PAYLOAD};
+use crate::image::{check_in, filled, Edition, Header, Keys, BLOCK, NO_CHECK, PAYLOAD};
 use std::io::{self, Write};
 use std::ops::Range;
 
@@ -23,13 +24,17 @@ pub fn write<W: Write>(seed: u64, lines: W, answers: W) -> io::Result<()> {
 }
 
 fn every_kind<W: Write>(script: &mut Script<W>) -> io::Result<()> {
-    around_asked(script)?;
-    around_lent(script)?;
-    around_room(script)?;
-    stopped(script)?;
-    fill_spoiled(script)?;
-    after_last(script)?;
-    cut_at_random(script)
+    for edition in [Edition::First, Edition::Second] {
+        around_asked(script, edition)?;
+        around_lent(script, edition)?;
+        around_room(script, edition)?;
+        stopped(script, edition)?;
+        fill_spoiled(script, edition)?;
+        after_last(script, edition)?;
+        disordered(script, edition)?;
+        cut_at_random(script, edition)?;
+    }
+    Ok(())
 }
 
 /// A console that answers each line as it is written, so that the next can suit what is expected by then.
@@ -75,6 +80,10 @@ impl<W: Write> Script<W> {
         self.console.reader().expected() as usize
     }
 
+    fn last(&self) -> Block {
+        self.console.reader().last()
+    }
+
     fn is_complete(&self) -> bool {
         self.console.reader().complete().is_ok()
     }
@@ -86,10 +95,11 @@ struct Image {
     keys: Keys,
     count: u32,
     release: u32,
+    mark: u16,
 }
 
 impl Image {
-    fn drawn(rng: &mut Rng, count: u32) -> Image {
+    fn drawn(rng: &mut Rng, count: u32, edition: Edition) -> Image {
         let lengths = rng.pick([(16, 16), (16, 32), (24, 16), (32, 24), (32, 32)]);
         let (encryption_key, check_key) = (rng.bytes(lengths.0), rng.bytes(lengths.1));
         Image {
@@ -98,6 +108,7 @@ impl Image {
             check_key,
             count,
             release: rng.word(),
+            mark: edition.mark(),
         }
     }
 
@@ -112,24 +123,33 @@ impl Image {
             count: self.count,
             release: self.release,
             length: length as u16,
-            reserved: 0,
+            mark: self.mark,
         }
     }
 
     /// A block under any header, with random payload as far as its length goes.
-    fn block(&self, rng: &mut Rng, header: &Header) -> Vec<u8> {
+    fn block(&self, rng: &mut Rng, header: &Header, previous: &Block) -> Vec<u8> {
         let payload = rng.bytes(usize::from(header.length).min(PAYLOAD));
-        self.keys
-            .seal(header, &filled(&payload).unwrap_or([0; PAYLOAD]))
+        let filled = filled(&payload).unwrap_or([0; PAYLOAD]);
+        self.keys.seal(header, &filled, previous)
     }
 
-    fn blocks(&self, rng: &mut Rng, numbers: Range<u32>) -> Vec<u8> {
+    /// Blocks in order, the first of them sealed on the check given and each other one on that before it.
+    fn blocks(&self, rng: &mut Rng, numbers: Range<u32>, last: Block) -> Vec<u8> {
+        let mut previous = last;
         numbers
             .flat_map(|number| {
                 let header = self.header(rng, number);
-                self.block(rng, &header)
+                let block = self.block(rng, &header, &previous);
+                previous = check_in(&block);
+                block
             })
             .collect()
+    }
+
+    /// Its first blocks; each call makes another build.
+    fn build(&self, rng: &mut Rng, blocks: u32) -> Vec<u8> {
+        self.blocks(rng, 0..blocks, NO_CHECK)
     }
 }
 
@@ -138,9 +158,9 @@ fn first(blocks: &[u8], count: usize) -> &[u8] {
     &blocks[..count * BLOCK]
 }
 
-fn around_asked<W: Write>(script: &mut Script<W>) -> io::Result<()> {
-    let image = Image::drawn(&mut script.rng, 300);
-    let blocks = image.blocks(&mut script.rng, 0..MOST_LENT as u32);
+fn around_asked<W: Write>(script: &mut Script<W>, edition: Edition) -> io::Result<()> {
+    let image = Image::drawn(&mut script.rng, 300, edition);
+    let blocks = image.build(&mut script.rng, MOST_LENT as u32);
     for lent in [0, 1, 127, 128, 129, MOST_LENT] {
         for asked in [0, 1, 127, 128, 129, MOST_LENT] {
             script.start(&image)?;
@@ -152,9 +172,9 @@ fn around_asked<W: Write>(script: &mut Script<W>) -> io::Result<()> {
 }
 
 /// Lent bytes that are no whole blocks, also past those asked for.
-fn around_lent<W: Write>(script: &mut Script<W>) -> io::Result<()> {
-    let image = Image::drawn(&mut script.rng, 300);
-    let blocks = image.blocks(&mut script.rng, 0..MOST_LENT as u32);
+fn around_lent<W: Write>(script: &mut Script<W>, edition: Edition) -> io::Result<()> {
+    let image = Image::drawn(&mut script.rng, 300, edition);
+    let blocks = image.build(&mut script.rng, MOST_LENT as u32);
     for lent in [1, 128, 129, MOST_LENT] {
         for less in [1, 16, 511] {
             script.start(&image)?;
@@ -166,9 +186,9 @@ fn around_lent<W: Write>(script: &mut Script<W>) -> io::Result<()> {
 }
 
 /// Every room from none to more than is needed, a byte and a block around the bound among them.
-fn around_room<W: Write>(script: &mut Script<W>) -> io::Result<()> {
-    let image = Image::drawn(&mut script.rng, 300);
-    let blocks = image.blocks(&mut script.rng, 0..MOST_LENT as u32);
+fn around_room<W: Write>(script: &mut Script<W>, edition: Edition) -> io::Result<()> {
+    let image = Image::drawn(&mut script.rng, 300, edition);
+    let blocks = image.build(&mut script.rng, MOST_LENT as u32);
     for lent in [1, 2, 127, 128, 129, MOST_LENT] {
         let needed = PAYLOAD * lent.min(MOST_ASKED);
         let less = [1, 479, 480, 481].map(|less| needed.saturating_sub(less));
@@ -183,7 +203,7 @@ fn around_room<W: Write>(script: &mut Script<W>) -> io::Result<()> {
 }
 
 /// A block that is refused for the reason given; 9 and 10 only behind a block that was accepted.
-fn wrong(image: &Image, rng: &mut Rng, reason: u8, number: u32) -> Vec<u8> {
+fn wrong(image: &Image, rng: &mut Rng, reason: u8, number: u32, previous: &Block) -> Vec<u8> {
     let mut header = image.header(rng, number);
     match reason {
         7 => header.count = rng.pick([0, LARGEST + 1, u32::MAX]),
@@ -191,10 +211,10 @@ fn wrong(image: &Image, rng: &mut Rng, reason: u8, number: u32) -> Vec<u8> {
         9 => header.count += 1,
         10 => header.release ^= 1 << rng.below(32),
         12 => header.length = rng.pick([0, 479, 481, u16::MAX]),
-        13 => header.reserved = rng.pick([1, 256, u16::MAX]),
+        13 => header.mark = rng.pick([1, 3, 256, 512, u16::MAX]),
         _ => {}
     }
-    let mut block = image.block(rng, &header);
+    let mut block = image.block(rng, &header, previous);
     if reason == 14 {
         block[rng.below(BLOCK)] ^= 1 << rng.below(8);
     }
@@ -202,13 +222,14 @@ fn wrong(image: &Image, rng: &mut Rng, reason: u8, number: u32) -> Vec<u8> {
 }
 
 /// Each reason at the first places, in the middle, at the last, and at one that is lent and not asked for; then the right blocks.
-fn stopped<W: Write>(script: &mut Script<W>) -> io::Result<()> {
-    let image = Image::drawn(&mut script.rng, 300);
-    let right = image.blocks(&mut script.rng, 0..300);
+fn stopped<W: Write>(script: &mut Script<W>, edition: Edition) -> io::Result<()> {
+    let image = Image::drawn(&mut script.rng, 300, edition);
+    let right = image.build(&mut script.rng, 300);
     for place in [0, 1, 63, 64, 126, 127, 128] {
         for reason in [7, 8, 9, 10, 12, 13, 14] {
             let mut lent = first(&right, 129).to_vec();
-            let block = wrong(&image, &mut script.rng, reason, place as u32);
+            let previous = check_in(first(&right, place));
+            let block = wrong(&image, &mut script.rng, reason, place as u32, &previous);
             lent[place * BLOCK..(place + 1) * BLOCK].copy_from_slice(&block);
             script.start(&image)?;
             script.turn(MOST_ASKED, &lent, PAYLOAD * MOST_ASKED)?;
@@ -221,17 +242,17 @@ fn stopped<W: Write>(script: &mut Script<W>) -> io::Result<()> {
 }
 
 /// Only the last block has fill.
-fn fill_spoiled<W: Write>(script: &mut Script<W>) -> io::Result<()> {
+fn fill_spoiled<W: Write>(script: &mut Script<W>, edition: Edition) -> io::Result<()> {
     for place in [0, 1, 63, 127] {
-        let image = Image::drawn(&mut script.rng, place + 1);
-        let mut blocks = image.blocks(&mut script.rng, 0..place);
+        let image = Image::drawn(&mut script.rng, place + 1, edition);
+        let mut blocks = image.build(&mut script.rng, place);
         let header = Header {
             length: 5,
             ..image.header(&mut script.rng, place)
         };
         let mut spoiled = filled(b"fives").unwrap_or([0; PAYLOAD]);
         spoiled[5 + script.rng.below(PAYLOAD - 5)] = 1;
-        blocks.extend(image.keys.seal(&header, &spoiled));
+        blocks.extend(image.keys.seal(&header, &spoiled, &check_in(&blocks)));
         script.start(&image)?;
         script.turn(MOST_ASKED, &blocks, PAYLOAD * MOST_ASKED)?;
         script.complete()?;
@@ -239,10 +260,10 @@ fn fill_spoiled<W: Write>(script: &mut Script<W>) -> io::Result<()> {
     Ok(())
 }
 
-fn after_last<W: Write>(script: &mut Script<W>) -> io::Result<()> {
+fn after_last<W: Write>(script: &mut Script<W>, edition: Edition) -> io::Result<()> {
     for count in [1, 2, 64, 127, 128] {
-        let image = Image::drawn(&mut script.rng, count);
-        let mut blocks = image.blocks(&mut script.rng, 0..count);
+        let image = Image::drawn(&mut script.rng, count, edition);
+        let mut blocks = image.build(&mut script.rng, count);
         blocks.extend(script.rng.bytes(BLOCK));
         script.start(&image)?;
         script.turn(MOST_ASKED, &blocks, PAYLOAD * MOST_ASKED)?;
@@ -252,10 +273,45 @@ fn after_last<W: Write>(script: &mut Script<W>) -> io::Result<()> {
     Ok(())
 }
 
+/// Two builds mixed from a place on, a block doubled, left out or changed with the next, and one of the other edition, chained or not;
+/// then the right blocks.
+fn disordered<W: Write>(script: &mut Script<W>, edition: Edition) -> io::Result<()> {
+    let image = Image::drawn(&mut script.rng, 300, edition);
+    let (right, other) = (
+        image.build(&mut script.rng, 300),
+        image.build(&mut script.rng, 300),
+    );
+    for place in [0, 1, 63, 126, 127] {
+        let (before, at) = right.split_at(place * BLOCK);
+        let (block, behind) = at.split_at(BLOCK);
+        let header = Header {
+            mark: image.mark ^ 2,
+            ..image.header(&mut script.rng, place as u32)
+        };
+        let chained = image.block(&mut script.rng, &header, &check_in(before));
+        let alone = image.block(&mut script.rng, &header, &NO_CHECK);
+        for lent in [
+            [before, &other[place * BLOCK..]].concat(),
+            [before, block, block, behind].concat(),
+            [before, behind].concat(),
+            [before, first(behind, 1), block, &behind[BLOCK..]].concat(),
+            [before, &chained, behind].concat(),
+            [before, &alone, behind].concat(),
+        ] {
+            script.start(&image)?;
+            script.turn(MOST_ASKED, first(&lent, 129), PAYLOAD * MOST_ASKED)?;
+            let rest = &right[script.expected() * BLOCK..];
+            script.turn(MOST_ASKED, first(rest, 129), PAYLOAD * MOST_ASKED)?;
+            script.complete()?;
+        }
+    }
+    Ok(())
+}
+
 /// Any number of blocks lent and asked for, some damaged, sometimes with too little room.
-fn cut_at_random<W: Write>(script: &mut Script<W>) -> io::Result<()> {
-    let image = Image::drawn(&mut script.rng, 1_500);
-    let right = image.blocks(&mut script.rng, 0..image.count);
+fn cut_at_random<W: Write>(script: &mut Script<W>, edition: Edition) -> io::Result<()> {
+    let image = Image::drawn(&mut script.rng, 1_500, edition);
+    let right = image.build(&mut script.rng, image.count);
     script.start(&image)?;
     while !script.is_complete() {
         let left = &right[script.expected() * BLOCK..];
@@ -278,16 +334,17 @@ fn cut_at_random<W: Write>(script: &mut Script<W>) -> io::Result<()> {
     Ok(())
 }
 
-/// In turns of 128, now and then with more lent, and once with a damaged block in the middle, which is then offered again.
+/// In edition 2, in turns of 128, now and then with more lent, and once with a damaged block in the middle, which is then offered again.
 fn largest<W: Write>(script: &mut Script<W>, count: u32) -> io::Result<()> {
-    let image = Image::drawn(&mut script.rng, count);
+    let image = Image::drawn(&mut script.rng, count, Edition::Second);
     let mut damage = Some(count as usize / 2);
     script.start(&image)?;
     while !script.is_complete() {
         let from = script.expected();
         let lent = script.rng.pick([MOST_ASKED, MOST_ASKED, MOST_ASKED, 129]);
         let to = count.min((from + lent) as u32);
-        let mut blocks = image.blocks(&mut script.rng, from as u32..to);
+        let last = script.last();
+        let mut blocks = image.blocks(&mut script.rng, from as u32..to, last);
         if let Some(place) = damage.filter(|number| (from..from + MOST_ASKED).contains(number)) {
             blocks[(place - from) * BLOCK + script.rng.below(BLOCK)] ^= 1;
             damage = None;

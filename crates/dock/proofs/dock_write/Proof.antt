@@ -1,6 +1,7 @@
 use mathlib.Core.Path.{ap, _∙_}
 use Rattle.image.specs.Calls.{writeNumber, writeOutput}
 use Rattle.image.specs.declared.WriteAnswer.{WriteAnswer}
+use Rattle.dock.specs.Answers.{numbers}
 use borrow.Author.Needs.{needs}
 use Rattle.dock.proofs.dock_write.Statement.{statement}
 use Rattle.dock.proofs.dock_write.Tie as tie
@@ -17,10 +18,10 @@ same-length c = search needs
 returns : tie.Need-returns
 returns c =
     let m = c .before .before .before in
-    let a = m .before .before .before .before .before .before .args in
+    let a = m .before .before .before .before .before .before .before .args in
     let e = m .write .ensures in (
       c .number .ensures ∙ ap writeNumber (e .0),
-      e .1 ∙ ap (λ (x : WriteAnswer). writeOutput x (a .ekey .now) (a .ckey .now) (a .number) (a .count) (a .release) (a .payload .now) (a .output .now)) (e .0),
+      e .1 ∙ ap (λ (x : WriteAnswer). writeOutput x (a .ekey .now) (a .ckey .now) (numbers (a .number) (a .count) (a .release) (a .edition)) (a .previous .bytes) (a .payload .now) (a .output .now)) (e .0),
     )
 
 pub dock-write-spec : {M : Type 1} → statement M

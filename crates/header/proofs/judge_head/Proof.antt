@@ -70,6 +70,9 @@ returns-5 c =
     (miss _ _ _ _ (sym (d .differs2 .ensures) ∙ p4 .if4 .left)
     (hit _ _ _ (sym (ap not (c .before .length-fits .ensures)) ∙ c .if5 .taken)))))
 
+cast-if6 : tie.Need-cast-if6
+cast-if6 c = search needs
+
 returns-6 : tie.Need-returns-6
 unfolding headTests
 returns-6 c =
@@ -117,5 +120,6 @@ judge-head-spec =
     cast-length-fits
     length-fits-requires
     returns-5
+    cast-if6
     returns-6
     returns-7)

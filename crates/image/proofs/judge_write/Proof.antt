@@ -22,7 +22,7 @@ returns-2 c =
 returns-3 : tie.Need-returns-3
 unfolding writeRuled
 returns-3 c =
-    let b = c .before in
+    let b = c .before .before in
     let a = b .before .before in
     rw (a .if1 .left, sym (ap not (b .before .count-fits .ensures)) ∙ b .if2 .left, le-ltb _ _ (c .if3 .taken))
 
@@ -33,27 +33,55 @@ returns-4 : tie.Need-returns-4
 unfolding writeRuled
 returns-4 c =
     let d = c .before .before in
-    let b = d .before in
+    let b = d .before .before in
     let a = b .before .before in
     rw (a .if1 .left, sym (ap not (b .before .count-fits .ensures)) ∙ b .if2 .left, lt-ltb _ _ (d .if3 .left), sym (ap not (c .before .length-fits .ensures)) ∙ c .if4 .taken)
+
+is-edition-requires : tie.Need-is-edition-requires
+is-edition-requires c κs = search needs
 
 returns-5 : tie.Need-returns-5
 unfolding writeRuled
 returns-5 c =
-    let f = c .before in
+    let f = c .before .before in
     let d = f .before .before in
-    let b = d .before in
+    let b = d .before .before in
     let a = b .before .before in
-    rw (a .if1 .left, sym (ap not (b .before .count-fits .ensures)) ∙ b .if2 .left, lt-ltb _ _ (d .if3 .left), sym (ap not (f .before .length-fits .ensures)) ∙ f .if4 .left, lt-ltb _ _ (c .if5 .taken))
+    rw (a .if1 .left, sym (ap not (b .before .count-fits .ensures)) ∙ b .if2 .left, lt-ltb _ _ (d .if3 .left), sym (ap not (f .before .length-fits .ensures)) ∙ f .if4 .left, sym (ap not (c .before .is-edition .ensures)) ∙ c .if5 .taken)
 
 returns-6 : tie.Need-returns-6
 unfolding writeRuled
 returns-6 c =
-    let f = c .before in
+    let i = c .before in
+    let f = i .before .before in
     let d = f .before .before in
-    let b = d .before in
+    let b = d .before .before in
     let a = b .before .before in
-    rw (a .if1 .left, sym (ap not (b .before .count-fits .ensures)) ∙ b .if2 .left, lt-ltb _ _ (d .if3 .left), sym (ap not (f .before .length-fits .ensures)) ∙ f .if4 .left, le-ltb _ _ (c .if5 .left))
+    rw (
+      a .if1 .left,
+      sym (ap not (b .before .count-fits .ensures)) ∙ b .if2 .left,
+      lt-ltb _ _ (d .if3 .left),
+      sym (ap not (f .before .length-fits .ensures)) ∙ f .if4 .left,
+      sym (ap not (i .before .is-edition .ensures)) ∙ i .if5 .left,
+      lt-ltb _ _ (c .if6 .taken),
+    )
+
+returns-7 : tie.Need-returns-7
+unfolding writeRuled
+returns-7 c =
+    let i = c .before in
+    let f = i .before .before in
+    let d = f .before .before in
+    let b = d .before .before in
+    let a = b .before .before in
+    rw (
+      a .if1 .left,
+      sym (ap not (b .before .count-fits .ensures)) ∙ b .if2 .left,
+      lt-ltb _ _ (d .if3 .left),
+      sym (ap not (f .before .length-fits .ensures)) ∙ f .if4 .left,
+      sym (ap not (i .before .is-edition .ensures)) ∙ i .if5 .left,
+      le-ltb _ _ (c .if6 .left),
+    )
 
 pub judge-write-spec : {M : Type 1} → statement M
 judge-write-spec =
@@ -65,5 +93,7 @@ judge-write-spec =
     returns-3
     length-fits-requires
     returns-4
+    is-edition-requires
     returns-5
-    returns-6)
+    returns-6
+    returns-7)

@@ -11,8 +11,8 @@ same-length c = search needs
 
 returns : tie.Need-returns
 returns c =
-    let a = c .before .before .before .before .before .before .before .before .before .before .before .before .before .args in
-    turned (a .reader) (a .blocks .now) (a .asked) (a .output .now) _ (c .before .before .before .turn .ensures)
+    let a = c .before .before .before .before .before .before .before .before .before .before .before .args in
+    turned (a .t1) (a .blocks .now) (a .asked) (a .output .now) _ (c .before .before .before .turn .ensures)
 
 pub read-turn-spec : {M : Type 1} → statement M
 read-turn-spec = tie.close (tie.spec turn-requires same-length returns)

@@ -1,11 +1,12 @@
 use mathlib.Core.Path.{ap, _∙_}
 use mathlib.Core.Bool.{Bool}
 use lib.ListN.{length}
+use mir.Syntax.{w8}
 use Rattle.octets.specs.Octets.{Bytes}
 use Rattle.image.specs.Calls.{writeRuled}
 use Rattle.image.proofs.Calls.{write-answered, write-fits, written-by, write-kept}
 use native.Mathlib.Omega.{arith}
-use borrow.Author.Needs.{needs}
+use borrow.Author.Needs.{needs, elem-fits}
 use Rattle.image.proofs.write.Statement.{statement}
 use Rattle.image.proofs.write.Tie as tie
 
@@ -28,21 +29,18 @@ returns : tie.Need-returns
 returns c =
     let j = c .before in
     let a = j .before .before .before .before .before .before .before .before .args in
-    let pa = j .judge-write .ensures ∙ ap (λ (x : Bool). writeRuled x (a .number) (a .count) (length (a .payload .now)) (length (a .output .now))) (j .before .both-taken .ensures) in (
-      write-answered (a .ekey .now) (a .ckey .now) _ _ (j .before .before .before .new .ensures) (j .before .before .new2 .ensures) (a .number) (a .count) (a .payload .now) (a .output .now) _ pa,
-      write-kept (j .judge-write .result) (a .ekey .now) (a .ckey .now) (a .number) (a .count) (a .release) (a .payload .now) (a .output .now) (c .match .keys2),
+    let pa = j .judge-write .ensures ∙ ap (λ (x : Bool). writeRuled x (a .numbers) (length (a .payload .now)) (length (a .output .now))) (j .before .both-taken .ensures) in (
+      write-answered (a .ekey .now) (a .ckey .now) _ _ (j .before .before .before .new .ensures) (j .before .before .new2 .ensures) (a .numbers) (a .payload .now) (a .output .now) _ pa,
+      write-kept (j .judge-write .result) (a .ekey .now) (a .ckey .now) (a .numbers) (a .previous) (a .payload .now) (a .output .now) (c .match .keys2),
     )
 
-cast-len : tie.Need-cast-len
-cast-len c =
-    let j = c .before .before in
-    let a = j .before .before .before .before .before .before .before .before .args in
-    let pa = j .judge-write .ensures ∙ ap (λ (x : Bool). writeRuled x (a .number) (a .count) (length (a .payload .now)) (length (a .output .now))) (j .before .both-taken .ensures) in
-    let f = write-fits (a .ekey .now) (a .ckey .now) _ _ (j .before .before .before .new .ensures) (j .before .before .new2 .ensures) (a .number) (a .count) (a .payload .now) (a .output .now) _ pa (c .enum-told .given .1) in
-    omega (arith, f)
-
 seal-under-requires : tie.Need-seal-under-requires
-seal-under-requires c κs = search needs
+seal-under-requires c κs =
+    let t = c .before .before .before .before .before in
+    let j = t .before .before in
+    let a = j .before .before .before .before .before .before .before .before .args in
+    let pa = j .judge-write .ensures ∙ ap (λ (x : Bool). writeRuled x (a .numbers) (length (a .payload .now)) (length (a .output .now))) (j .before .both-taken .ensures) in
+    write-fits (a .ekey .now) (a .ckey .now) _ _ (j .before .before .before .new .ensures) (j .before .before .new2 .ensures) (a .numbers) (a .payload .now) (a .output .now) _ pa (t .enum-told .given .1)
 
 same-length : tie.Need-same-length
 same-length c = search needs
@@ -52,10 +50,11 @@ returns-2 c =
     let t = c .before .before .before .before .before .before .before .before in
     let j = t .before .before in
     let a = j .before .before .before .before .before .before .before .before .args in
-    let pa = j .judge-write .ensures ∙ ap (λ (x : Bool). writeRuled x (a .number) (a .count) (length (a .payload .now)) (length (a .output .now))) (j .before .both-taken .ensures) in
+    let pa = j .judge-write .ensures ∙ ap (λ (x : Bool). writeRuled x (a .numbers) (length (a .payload .now)) (length (a .output .now))) (j .before .both-taken .ensures) in
+    let bv : Bytes (a .previous) = λ i. elem-fits w8 w8 (a .previous) _ i (j .before .before .before .before .before .before .before .before .good .1 .1 .1 .0 .1 .1) tt .fits in
     let bp : Bytes (a .payload .now) = λ i. omega (arith, j .before .before .before .before .before .shared-slice-known3 .given i) in (
-      write-answered (a .ekey .now) (a .ckey .now) _ _ (j .before .before .before .new .ensures) (j .before .before .new2 .ensures) (a .number) (a .count) (a .payload .now) (a .output .now) _ pa,
-      written-by (a .ekey .now) (a .ckey .now) _ _ (j .before .before .before .new .ensures) (j .before .before .new2 .ensures) (a .number) (a .count) (a .payload .now) (a .output .now) _ pa (a .release) _ bp (t .enum-told .given .1) (c .before .before .seal-under .ensures),
+      write-answered (a .ekey .now) (a .ckey .now) _ _ (j .before .before .before .new .ensures) (j .before .before .new2 .ensures) (a .numbers) (a .payload .now) (a .output .now) _ pa,
+      written-by (a .ekey .now) (a .ckey .now) _ _ (j .before .before .before .new .ensures) (j .before .before .new2 .ensures) (a .numbers) (a .payload .now) (a .output .now) _ pa (a .previous) _ bv bp (t .enum-told .given .1) (c .before .before .seal-under .ensures),
     )
 
 pub write-spec : {M : Type 1} → statement M
@@ -68,7 +67,6 @@ write-spec =
     judge-write-requires
     enum-told
     returns
-    cast-len
     seal-under-requires
     same-length
     returns-2)

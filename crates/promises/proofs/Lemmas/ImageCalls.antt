@@ -9,7 +9,7 @@ use borrow.Author.Tests.{eqb-true, eqb-false, eq-eqb, ltb-true, ltb-false, lt-lt
 use lib.Dec.{eqb, ltb, leb}
 use lib.ListN.{length, take, drop, length-drop, replicate}
 use lib.Seq.{take-at, drop-at, take-all}
-use Rattle.octets.specs.Octets.{choose, Bytes, over}
+use Rattle.octets.specs.Octets.{Octets, choose, Bytes, over}
 use Rattle.octets.specs.Blocks.{Lawful}
 use Rattle.octets.proofs.Blocks.{take-octets, drop-bytes}
 use Rattle.sbox.specs.Sbox.{sBox}
@@ -20,19 +20,23 @@ use Rattle.fips197.specs.Cipher.{aesOf, standard}
 use Rattle.fips197.proofs.Aes.{aes-lawful, key-lawful}
 use Rattle.sp800_38b.specs.Cmac.{cmac}
 use Rattle.layout.specs.Layout.{headOf}
+use Rattle.header.specs.Marks.{isEdition}
 use Rattle.header.specs.Rules.{countFits, lengthFits}
 use Rattle.header.specs.declared.Verdict.the-variants.{Accepted}
 use Rattle.layout.proofs.Laws.{Wide}
-use Rattle.format.specs.Edition.{one, noCheck}
+use Rattle.format.specs.Edition.{tailOf, edition}
 use Rattle.format.specs.Sealed.{headFor, blockFor, opened}
-use Rattle.format.specs.Judge.{Keys, begun, standing, judge, advanced}
+use Rattle.format.specs.Judge.{Keys, either, fresh, taken}
 use Rattle.turns.specs.Turn.{Reading, readBlocks, cut, handled, whole, blocksRead, turnUnder}
-use Rattle.image.specs.Calls.{bothTaken, writeRuled, writeAnswer, writeOutput, startedBy, startOf, keysOf, blocksBy, turnAfter, turnOf}
+use Rattle.image.specs.Calls.{lastFor, blockOf, bothTaken, writeRuled, writeAnswer, writeOutput, startedBy, startOf, keysOf, blocksBy, turnAfter, turnOf}
 use Rattle.turns.specs.declared.BlocksRead.{BlocksRead}
-use Rattle.image.specs.declared.WriteAnswer.the-variants.{Written, WriteKey, WriteCount, WriteNumber, WriteLength, WriteRoom}
+use Rattle.image.specs.declared.WriteAnswer.the-variants.{Written, WriteKey, WriteCount, WriteNumber, WriteLength, WriteEdition, WriteRoom}
+use Rattle.image.specs.declared.Numbers.{Numbers}
 use Rattle.image.specs.declared.Reader.{Reader}
 use Rattle.turns.specs.declared.Stop.the-variants.{End, Asked, Lent, Room}
 use Rattle.image.specs.declared.Turn.{Turn}
+use Rattle.format.proofs.Editions.{tail-bytes}
+use Rattle.image.proofs.Calls.{last-bytes, last-size, mark-small}
 use Rattle.promises.proofs.ImageTerms.{Blocks, payload, Fit, WriteSays, inState, readingOf, given, Fair, StopSays}
 use Rattle.promises.proofs.Keys.{KeyTaken}
 use Rattle.promises.proofs.Lemmas.ImageSealed.{sealed-size}
@@ -80,7 +84,7 @@ start-keys ekey ckey h = go (bothTaken (scheduleOf sBox ekey) (scheduleOf sBox c
 -- and gives a fresh reader, whose keys are AES under the two
 pub start-fresh : (ekey ckey : List ℕ) → KeyTaken ekey → KeyTaken ckey
     → (keyNumber (startOf ekey ckey .answer) ≡ 0)
-    × (keysOf (startOf ekey ckey .reader) ≡ keysUnder ekey ckey) × (startOf ekey ckey .reader .progress ≡ begun)
+    × (keysOf (startOf ekey ckey .reader) ≡ keysUnder ekey ckey) × (startOf ekey ckey .reader .progress ≡ fresh)
 unfolding startOf
 start-fresh ekey ckey h g =
     rw (taken-both (scheduleOf sBox ekey) (scheduleOf sBox ckey) h g) (refl, ap (λ (u : Bool). record { enc = aesOf ekey; mac = cmac (aesOf ckey); usable = u }) known, refl)
@@ -89,22 +93,22 @@ start-fresh ekey ckey h g =
     known = rw (key-known ekey h) (key-known ckey g)
 
 -- whatever the keys, it begins before the first block
-pub fresh-start : (ekey ckey : List ℕ) → startOf ekey ckey .reader .progress ≡ begun
+pub fresh-start : (ekey ckey : List ℕ) → startOf ekey ckey .reader .progress ≡ fresh
 unfolding startOf
 fresh-start ekey ckey = go (bothTaken (scheduleOf sBox ekey) (scheduleOf sBox ckey)) refl
   where
-    go : (t : Bool) → bothTaken (scheduleOf sBox ekey) (scheduleOf sBox ckey) ≡ t → startedBy (scheduleOf sBox ekey) (scheduleOf sBox ckey) .reader .progress ≡ begun
+    go : (t : Bool) → bothTaken (scheduleOf sBox ekey) (scheduleOf sBox ckey) ≡ t → startedBy (scheduleOf sBox ekey) (scheduleOf sBox ckey) .reader .progress ≡ fresh
     go true e = rw e
     go false e = rw e
 
 -- one whose answer is 1 gives a reader without usable keys
 pub start-refused : (ekey ckey : List ℕ) → keyNumber (startOf ekey ckey .answer) ≡ 1
-    → (keysOf (startOf ekey ckey .reader) .usable ≡ false) × (startOf ekey ckey .reader .progress ≡ begun)
+    → (keysOf (startOf ekey ckey .reader) .usable ≡ false) × (startOf ekey ckey .reader .progress ≡ fresh)
 unfolding startOf
 start-refused ekey ckey h = go (bothTaken (scheduleOf sBox ekey) (scheduleOf sBox ckey)) refl h
   where
     go : (t : Bool) → bothTaken (scheduleOf sBox ekey) (scheduleOf sBox ckey) ≡ t → keyNumber (startedBy (scheduleOf sBox ekey) (scheduleOf sBox ckey) .answer) ≡ 1
-        → (keysOf (startedBy (scheduleOf sBox ekey) (scheduleOf sBox ckey) .reader) .usable ≡ false) × (startedBy (scheduleOf sBox ekey) (scheduleOf sBox ckey) .reader .progress ≡ begun)
+        → (keysOf (startedBy (scheduleOf sBox ekey) (scheduleOf sBox ckey) .reader) .usable ≡ false) × (startedBy (scheduleOf sBox ekey) (scheduleOf sBox ckey) .reader .progress ≡ fresh)
     go true e q =
         let w : _≡_ {A = ℕ} 0 1 = rw e at q in
         absurd (omega arith)
@@ -115,7 +119,7 @@ pub start-zeros : (ekey ckey : List ℕ) → keyNumber (startOf ekey ckey .answe
     → startOf ekey ckey .reader ≡ record {
       enc = record { words = replicate 60 0; rounds = 0 };
       chk = record { words = replicate 60 0; rounds = 0 };
-      progress = record { next = 0; count = 0; release = 0 };
+      progress = record { next = 0; count = 0; release = 0; edition = 0; last = replicate 16 0 };
     }
 unfolding startOf
 start-zeros ekey ckey h = go (bothTaken (scheduleOf sBox ekey) (scheduleOf sBox ckey)) refl h
@@ -124,7 +128,7 @@ start-zeros ekey ckey h = go (bothTaken (scheduleOf sBox ekey) (scheduleOf sBox 
         → startedBy (scheduleOf sBox ekey) (scheduleOf sBox ckey) .reader ≡ record {
           enc = record { words = replicate 60 0; rounds = 0 };
           chk = record { words = replicate 60 0; rounds = 0 };
-          progress = record { next = 0; count = 0; release = 0 };
+          progress = record { next = 0; count = 0; release = 0; edition = 0; last = replicate 16 0 };
         }
     go true e q =
         let w : _≡_ {A = ℕ} 0 1 = rw e at q in
@@ -139,12 +143,19 @@ usable-lawful r h =
 
 -- ---- the writer
 
+-- a number that is no edition is neither 1 nor 2
+no-edition : (n : ℕ) → isEdition n ≡ false → (n ≡ 1 → ⊥) × (n ≡ 2 → ⊥)
+unfolding isEdition
+no-edition n e = (λ q. unlike (sym (rw q refl) ∙ e), λ q. unlike (sym (rw q refl) ∙ e))
+  where
+    unlike : true ≡ false → ⊥
+    unlike e = let y : _≡_ {A = ℕ} 0 1 = cc in omega arith
+
 -- every answer says what the table says of it
-pub answer-says : (ekey ckey : List ℕ) (number count : ℕ) (p out : List ℕ)
-    → WriteSays ekey ckey number count (length p) (length out) (writeAnswer ekey ckey number count p out)
+pub answer-says : (ekey ckey : List ℕ) (n : Numbers) (p out : List ℕ) → WriteSays ekey ckey n (length p) (length out) (writeAnswer ekey ckey n p out)
 unfolding writeAnswer writeRuled
-answer-says ekey ckey number count p out =
-    go (bothTaken (scheduleOf sBox ekey) (scheduleOf sBox ckey)) (countFits count) (ltb number count) (lengthFits number count (length p)) (ltb (length out) 512) refl refl refl refl refl
+answer-says ekey ckey n p out =
+    go (bothTaken (scheduleOf sBox ekey) (scheduleOf sBox ckey)) (countFits (n .count)) (ltb (n .number) (n .count)) (lengthFits (n .number) (n .count) (length p)) (isEdition (n .edition)) (ltb (length out) 512) refl refl refl refl refl refl
   where
     unlike : (t : Bool) → t ≡ true → t ≡ false → ⊥
     unlike t e f = let z : true ≡ false = sym e ∙ f in let y : _≡_ {A = ℕ} 0 1 = cc in omega arith
@@ -152,70 +163,83 @@ answer-says ekey ckey number count p out =
     keys : bothTaken (scheduleOf sBox ekey) (scheduleOf sBox ckey) ≡ true → KeyTaken ekey × KeyTaken ckey
     keys e = both-taken (scheduleOf sBox ekey) (scheduleOf sBox ckey) e
 
-    go : (a b c d e : Bool) → bothTaken (scheduleOf sBox ekey) (scheduleOf sBox ckey) ≡ a → countFits count ≡ b → ltb number count ≡ c → lengthFits number count (length p) ≡ d → ltb (length out) 512 ≡ e
-        → WriteSays ekey ckey number count (length p) (length out)
-        (choose (not a) WriteKey (choose (not b) WriteCount (choose (not c) WriteNumber (choose (not d) WriteLength (choose e WriteRoom Written)))))
-    go false b c d e ea eb ec ed ee = λ te tc. unlike (bothTaken (scheduleOf sBox ekey) (scheduleOf sBox ckey)) (taken-both (scheduleOf sBox ekey) (scheduleOf sBox ckey) te tc) ea
-    go true false c d e ea eb ec ed ee = let k = keys ea in (k .0, k .1, λ l h. unlike (countFits count) (fits-count count l h) eb)
-    go true true false d e ea eb ec ed ee = let k = keys ea in let f = count-fits count eb in (k .0, k .1, f .0, f .1, ltb-false number count ec)
-    go true true true false e ea eb ec ed ee = let k = keys ea in let f = count-fits count eb in (k .0, k .1, f .1, ltb-true number count ec, ed)
-    go true true true true true ea eb ec ed ee = let k = keys ea in let f = count-fits count eb in (k .0, k .1, f .1, ltb-true number count ec, ed, ltb-true (length out) 512 ee)
-    go true true true true false ea eb ec ed ee =
+    go : (a b c d i e : Bool) → bothTaken (scheduleOf sBox ekey) (scheduleOf sBox ckey) ≡ a → countFits (n .count) ≡ b → ltb (n .number) (n .count) ≡ c → lengthFits (n .number) (n .count) (length p) ≡ d
+        → isEdition (n .edition) ≡ i → ltb (length out) 512 ≡ e
+        → WriteSays ekey ckey n (length p) (length out)
+        (choose (not a) WriteKey (choose (not b) WriteCount (choose (not c) WriteNumber (choose (not d) WriteLength (choose (not i) WriteEdition (choose e WriteRoom Written))))))
+    go false b c d i e ea eb ec ed ei ee = λ te tc. unlike (bothTaken (scheduleOf sBox ekey) (scheduleOf sBox ckey)) (taken-both (scheduleOf sBox ekey) (scheduleOf sBox ckey) te tc) ea
+    go true false c d i e ea eb ec ed ei ee = let k = keys ea in (k .0, k .1, λ l h. unlike (countFits (n .count)) (fits-count (n .count) l h) eb)
+    go true true false d i e ea eb ec ed ei ee = let k = keys ea in let f = count-fits (n .count) eb in (k .0, k .1, f .0, f .1, ltb-false (n .number) (n .count) ec)
+    go true true true false i e ea eb ec ed ei ee = let k = keys ea in let f = count-fits (n .count) eb in (k .0, k .1, f .1, ltb-true (n .number) (n .count) ec, ed)
+    go true true true true false e ea eb ec ed ei ee = let k = keys ea in let f = count-fits (n .count) eb in let x = no-edition (n .edition) ei in (k .0, k .1, f .1, ltb-true (n .number) (n .count) ec, ed, x .0, x .1)
+    go true true true true true true ea eb ec ed ei ee = let k = keys ea in let f = count-fits (n .count) eb in (k .0, k .1, f .1, ltb-true (n .number) (n .count) ec, ed, ei, ltb-true (length out) 512 ee)
+    go true true true true true false ea eb ec ed ei ee =
         let k = keys ea in
-        let c = count-fits count eb in
+        let c = count-fits (n .count) eb in
         record {
           ekey-taken = k .0;
           ckey-taken = k .1;
           count-low = c .0;
           count-high = c .1;
-          below = ltb-true number count ec;
+          below = ltb-true (n .number) (n .count) ec;
           len-fits = ed;
+          known = ei;
           roomy = ltb-false (length out) 512 ee;
         }
 
 -- it writes where all that it asks holds, and only there
-pub written-fit : (ekey ckey : List ℕ) (number count : ℕ) (p out : List ℕ) → writeAnswer ekey ckey number count p out ≡ Written → Fit ekey ckey number count (length p) (length out)
-written-fit ekey ckey number count p out e = subst (WriteSays ekey ckey number count (length p) (length out)) e (answer-says ekey ckey number count p out)
+pub written-fit : (ekey ckey : List ℕ) (n : Numbers) (p out : List ℕ) → writeAnswer ekey ckey n p out ≡ Written → Fit ekey ckey n (length p) (length out)
+written-fit ekey ckey n p out e = subst (WriteSays ekey ckey n (length p) (length out)) e (answer-says ekey ckey n p out)
 
-pub fit-written : (ekey ckey : List ℕ) (number count : ℕ) (p out : List ℕ) → KeyTaken ekey → KeyTaken ckey → countFits count ≡ true → number < count
-    → lengthFits number count (length p) ≡ true → 512 ≤ length out → writeAnswer ekey ckey number count p out ≡ Written
+pub fit-written : (ekey ckey : List ℕ) (n : Numbers) (p out : List ℕ) → Fit ekey ckey n (length p) (length out) → writeAnswer ekey ckey n p out ≡ Written
 unfolding writeAnswer writeRuled
-fit-written ekey ckey number count p out te tc c b f o =
-    rw (taken-both (scheduleOf sBox ekey) (scheduleOf sBox ckey) te tc, c, lt-ltb number count b, f, le-ltb (length out) 512 o)
+fit-written ekey ckey n p out f =
+    rw (
+      taken-both (scheduleOf sBox ekey) (scheduleOf sBox ckey) (f .ekey-taken) (f .ckey-taken),
+      fits-count (n .count) (f .count-low) (f .count-high),
+      lt-ltb (n .number) (n .count) (f .below),
+      f .len-fits,
+      f .known,
+      le-ltb (length out) 512 (f .roomy),
+    )
 
--- the block that it writes: of edition 1, under the header that it was told
-abbrev pub blockOf : (ekey ckey : List ℕ) (number count release : ℕ) (payload : List ℕ) → List ℕ
-blockOf ekey ckey number count release payload = blockFor one (aesOf ekey) (aesOf ckey) noCheck number count release payload
+-- ---- the block that it writes
 
-none : Bytes []
-none k = omega arith
+pub last-octets : (number : ℕ) (previous : List ℕ) → Octets 16 previous → Octets 16 (lastFor number previous)
+last-octets number previous o = record { size = last-size number previous (o .size); bytes = last-bytes number previous (o .bytes) }
 
-module _ (ekey ckey : List ℕ) (number count release : ℕ) (p out : List ℕ) (bp : Bytes p) (w : writeAnswer ekey ckey number count p out ≡ Written) where
-  abbrev fit : Fit ekey ckey number count (length p) (length out)
-  fit = written-fit ekey ckey number count p out w
+module _ (ekey ckey : List ℕ) (n : Numbers) (previous p out : List ℕ) (bv : Bytes previous) (bp : Bytes p) (w : writeAnswer ekey ckey n p out ≡ Written) where
+  abbrev fit : Fit ekey ckey n (length p) (length out)
+  fit = written-fit ekey ckey n p out w
 
   pub small : length p ≤ 480
-  small = fits-le number count (length p) (fit .len-fits)
+  small = fits-le (n .number) (n .count) (length p) (fit .len-fits)
 
-  block-size : length (blockOf ekey ckey number count release p) ≡ 512
-  block-size = sealed-size (aesOf ekey) (aesOf ckey) (key-lawful ekey (fit .ekey-taken)) (key-lawful ckey (fit .ckey-taken)) (headFor one number count release (length p)) p small bp [] none
+  -- what its check covers besides is bytes
+  pub tail-is : Bytes (tailOf (n .edition) (lastFor (n .number) previous))
+  tail-is = tail-bytes (n .edition) (lastFor (n .number) previous) (last-bytes (n .number) previous bv)
+
+  block-size : length (blockOf ekey ckey n previous p) ≡ 512
+  block-size =
+      sealed-size (aesOf ekey) (aesOf ckey) (key-lawful ekey (fit .ekey-taken)) (key-lawful ckey (fit .ckey-taken)) (headFor (edition (n .edition)) (n .number) (n .count) (n .release) (length p)) p small bp
+      (tailOf (n .edition) (lastFor (n .number) previous)) tail-is
 
   -- the first 512 bytes of the output are the block, and the rest stays
-  pub output-block : take 512 (writeOutput Written ekey ckey number count release p out) ≡ blockOf ekey ckey number count release p
-  output-block = take-at (blockOf ekey ckey number count release p) (drop (length (blockOf ekey ckey number count release p)) out) 512 block-size
+  pub output-block : take 512 (writeOutput Written ekey ckey n previous p out) ≡ blockOf ekey ckey n previous p
+  output-block = take-at (blockOf ekey ckey n previous p) (drop (length (blockOf ekey ckey n previous p)) out) 512 block-size
 
-  pub output-rest : drop 512 (writeOutput Written ekey ckey number count release p out) ≡ drop 512 out
+  pub output-rest : drop 512 (writeOutput Written ekey ckey n previous p out) ≡ drop 512 out
   output-rest =
-      drop-at (blockOf ekey ckey number count release p) (drop (length (blockOf ekey ckey number count release p)) out) 512 block-size
-      ∙ ap (λ (n : ℕ). drop n out) block-size
+      drop-at (blockOf ekey ckey n previous p) (drop (length (blockOf ekey ckey n previous p)) out) 512 block-size
+      ∙ ap (λ (m : ℕ). drop m out) block-size
 
-  pub block-wide : release < 4294967296 → Wide (headFor one number count release (length p))
+  pub block-wide : n .release < 4294967296 → Wide (headFor (edition (n .edition)) (n .number) (n .count) (n .release) (length p))
   block-wide hr = record {
     number-wide = omega (arith, fit .below, fit .count-high);
     count-wide = omega (arith, fit .count-high);
     release-wide = hr;
     len-wide = omega (arith, small);
-    reserved-wide = omega arith;
+    reserved-wide = mark-small (n .edition) (fit .known);
   }
 
 -- ---- lent blocks
@@ -287,25 +311,25 @@ module _ (r : Reader) (lent : List ℕ) (asked : ℕ) (out : List ℕ) where
   reading-length b = go (keysOf r .usable) refl
     where
       go : (u : Bool) → keysOf r .usable ≡ u → length (readingOf r lent asked .out) ≡ 480 * readingOf r lent asked .accepted
-      go true e = out-length (keysOf r) one (usable-lawful r e .0) (standing (r .progress)) (given lent asked) (given-blocks lent asked b)
+      go true e = out-length (keysOf r) either (usable-lawful r e .0) (r .progress) (given lent asked) (given-blocks lent asked b)
       go false e =
-          let n = no-keys-none (keysOf r) one e (standing (r .progress)) (given lent asked) in
-          let o = none-accepted (blocksBy r) (standing (r .progress)) (given lent asked) n in
+          let n = no-keys-none (keysOf r) either e (r .progress) (given lent asked) in
+          let o = none-accepted (blocksBy r) (r .progress) (given lent asked) n in
           ap length (o .2) ∙ sym (ap (480 *_) n)
 
   pub reading-le : readingOf r lent asked .accepted ≤ handled lent asked
-  reading-le = subst (λ (n : ℕ). readingOf r lent asked .accepted ≤ n) (cut-length (handled lent asked) lent) (accepted-le (blocksBy r) (standing (r .progress)) (given lent asked))
+  reading-le = subst (λ (n : ℕ). readingOf r lent asked .accepted ≤ n) (cut-length (handled lent asked) lent) (accepted-le (blocksBy r) (r .progress) (given lent asked))
 
 -- a reader offered one block that it accepts
 pub one-accepted : (r : Reader) (b : List ℕ) (asked : ℕ) (out : List ℕ) → length b ≡ 512 → 0 < asked → asked ≤ 128 → 480 ≤ length out
-    → judge (keysOf r) one (standing (r .progress)) b ≡ Accepted
+    → blocksBy r .verdict (r .progress) b ≡ Accepted
     → turnOf r b asked out
-    ≡ (record { reader = inState r (advanced (r .progress) (headOf b)); accepted = 1; bytes = headOf b .len; stop = End }, over (opened (keysOf r .enc) b) out)
+    ≡ (record { reader = inState r (taken (r .progress) b); accepted = 1; bytes = headOf b .len; stop = End }, over (opened (keysOf r .enc) b) out)
 unfolding cut readBlocks
 one-accepted r b asked out lb la ha lo e =
     fair-turn r b asked out (record { some-asked = la; few-asked = ha; blocks-lent = omega arith; room = omega (arith, n) })
-    ∙ ap (λ (t : Reading). (turnAfter r (blocksRead t), over (t .out) out)) (ap (readBlocks (blocksBy r) (standing (r .progress))) c ∙ ran-accepted (blocksBy r) (standing (r .progress)) b [] e)
-    ∙ ap₂ (λ (m : ℕ) (x : List ℕ). (record { reader = inState r (advanced (r .progress) (headOf b)); accepted = 1; bytes = m; stop = End }, over x out))
+    ∙ ap (λ (t : Reading). (turnAfter r (blocksRead t), over (t .out) out)) (ap (readBlocks (blocksBy r) (r .progress)) c ∙ ran-accepted (blocksBy r) (r .progress) b [] e)
+    ∙ ap₂ (λ (m : ℕ) (x : List ℕ). (record { reader = inState r (taken (r .progress) b); accepted = 1; bytes = m; stop = End }, over x out))
     (add-zero (headOf b .len)) (append-nil (opened (keysOf r .enc) b))
   where
     n : handled b asked ≡ 1

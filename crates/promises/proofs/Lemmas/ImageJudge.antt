@@ -30,7 +30,7 @@ use Rattle.header.proofs.Order.{all-false, all-accepted}
 use Rattle.blocks.proofs.Laws.{same-true}
 use Rattle.format.specs.Sealed.{filled, front, sealed, opened, checks, zeroAfter, fillZero}
 use Rattle.format.specs.Edition.{Edition}
-use Rattle.format.specs.Judge.{Keys, Standing, tests, judge}
+use Rattle.format.specs.Judge.{Keys, tests, judge}
 use Rattle.promises.proofs.ImageTerms.{Right, Met, Row, rank, Says, unchecked, payload}
 use Rattle.promises.proofs.Lemmas.ImageSealed.{fill-of, sealed-size, sealed-bytes, sealed-checks, sealed-head, sealed-fill, same-block}
 
@@ -153,27 +153,27 @@ fits-le number count len e = go (eqb (number + 1) count) e
 
 -- ---- the verdict, in every edition
 
-module _ (k : Keys) (ed : Edition) (s : Standing) (b : List ℕ) where
+module _ (k : Keys) (ed : Edition) (s : Progress) (b : List ℕ) where
   -- accepted is what meets every test
   pub accepted-met : judge k ed s b ≡ Accepted → Met k ed s b
   unfolding judge
   accepted-met e =
-      let a = asked-right (ed .mark) (s .progress) (headOf b) (k .usable && checks (k .mac) (ed .tail (s .last)) b) (fillZero (k .enc) b) e in
+      let a = asked-right (ed .mark) s (headOf b) (k .usable && checks (k .mac) (ed .tail (s .last)) b) (fillZero (k .enc) b) e in
       let c = and-true (k .usable) (checks (k .mac) (ed .tail (s .last)) b) (a .1) in
       record { usable-keys = c .0; check-right = c .1; head-right = a .0; fill-zero = a .2 }
 
   pub met-accepted : Met k ed s b → judge k ed s b ≡ Accepted
   unfolding judge
   met-accepted m =
-      right-asked (ed .mark) (s .progress) (headOf b) (k .usable && checks (k .mac) (ed .tail (s .last)) b) (fillZero (k .enc) b) (m .head-right) (rw (m .usable-keys) (m .check-right)) (m .fill-zero)
+      right-asked (ed .mark) s (headOf b) (k .usable && checks (k .mac) (ed .tail (s .last)) b) (fillZero (k .enc) b) (m .head-right) (rw (m .usable-keys) (m .check-right)) (m .fill-zero)
 
   -- where the check is not right
-  no-check : (k .usable && checks (k .mac) (ed .tail (s .last)) b) ≡ false → judge k ed s b ≡ unchecked (s .progress)
+  no-check : (k .usable && checks (k .mac) (ed .tail (s .last)) b) ≡ false → judge k ed s b ≡ unchecked s
   unfolding judge firstOf
   no-check e = rw e
 
   -- a block whose check is wrong is refused by 16 or 14
-  pub wrong-check : checks (k .mac) (ed .tail (s .last)) b ≡ false → judge k ed s b ≡ unchecked (s .progress)
+  pub wrong-check : checks (k .mac) (ed .tail (s .last)) b ≡ false → judge k ed s b ≡ unchecked s
   wrong-check e = no-check (go (k .usable))
     where
       go : (t : Bool) → (t && checks (k .mac) (ed .tail (s .last)) b) ≡ false
@@ -181,7 +181,7 @@ module _ (k : Keys) (ed : Edition) (s : Standing) (b : List ℕ) where
       go false = refl
 
   -- and every block offered to a reader without usable keys
-  pub no-keys : k .usable ≡ false → judge k ed s b ≡ unchecked (s .progress)
+  pub no-keys : k .usable ≡ false → judge k ed s b ≡ unchecked s
   no-keys e = no-check (rw e)
 
 -- ---- every verdict says what the table says of it, and that nothing asked before it holds
@@ -221,12 +221,12 @@ first-told R i (t ∷ ts) w holds none r e = go (t .0) refl e (first-told R (suc
         (subst R same (w .1 f), λ q h. none q (omega arith))
     go false f g rest = rest (λ q h x. ⊎-elim (λ z. true-false (t .0) (here q z x) f) (λ l. none q l x) (eq-or-lt-of-le {n = rank q} {m = i} (omega arith))) r g
 
-module _ (k : Keys) (ed : Edition) (s : Standing) (b : List ℕ) where
+module _ (k : Keys) (ed : Edition) (s : Progress) (b : List ℕ) where
   ranked : Ranked (Row k ed s b) 0 (tests k ed s b)
   unfolding headTests
   ranked =
       let h = headOf b in
-      let p = s .progress in (
+      let p = s in (
         refl,
         λ e. closed-says p e,
         (
@@ -263,12 +263,12 @@ module _ (k : Keys) (ed : Edition) (s : Standing) (b : List ℕ) where
   -- a row that holds is a test that does
   row-test : (q : Reason) → Row k ed s b q → 0 ≤ rank q → testAt (tests k ed s b) (rank q - 0) ≡ true
   unfolding testAt headTests
-  row-test AfterLast x h = says-closed (s .progress) (x .0) (x .1)
+  row-test AfterLast x h = says-closed s (x .0) (x .1)
   row-test CheckWrong x h = ap not x
   row-test (Count v) x h = ap not (either (countFits (headOf b .count)) (λ e. let c = count-fits (headOf b .count) e in x .1 (omega (arith, x .0, c .0)) (omega (arith, x .0, c .1))))
-  row-test (Number v) x h = ap not (ne-eqb (headOf b .number) (s .progress .next) (λ e. x .1 (x .0 ∙ e)))
-  row-test (OtherCount v) x h = rw (lt-ltb 0 (s .progress .next) (x .1)) (ap not (ne-eqb (headOf b .count) (s .progress .count) (λ e. x .2 (x .0 ∙ e))))
-  row-test (OtherRelease v) x h = rw (lt-ltb 0 (s .progress .next) (x .1)) (ap not (ne-eqb (headOf b .release) (s .progress .release) (λ e. x .2 (x .0 ∙ e))))
+  row-test (Number v) x h = ap not (ne-eqb (headOf b .number) (s .next) (λ e. x .1 (x .0 ∙ e)))
+  row-test (OtherCount v) x h = rw (lt-ltb 0 (s .next) (x .1)) (ap not (ne-eqb (headOf b .count) (s .count) (λ e. x .2 (x .0 ∙ e))))
+  row-test (OtherRelease v) x h = rw (lt-ltb 0 (s .next) (x .1)) (ap not (ne-eqb (headOf b .release) (s .release) (λ e. x .2 (x .0 ∙ e))))
   row-test (Length v) x h = ap not (ap (lengthFits (headOf b .number) (headOf b .count)) (sym (x .0)) ∙ x .1)
   row-test (Reserved v) x h = ap not (ne-eqb (headOf b .reserved) (ed .mark) (λ e. x .1 (x .0 ∙ e)))
   row-test FillNotZero x h = ap not x
@@ -295,7 +295,7 @@ module _ (ek ck : BlockCipher) (le : Lawful 16 ek) (lc : Lawful 16 ck) where
   with usable = record { enc = ek; mac = cmac ck; usable = usable }
 
   -- a sealed block is accepted where the reader stands right for it
-  pub sealed-accepted : (ed : Edition) (s : Standing) (h : Head) (p : List ℕ) → Bytes (ed .tail (s .last)) → Bytes p → length p ≡ h .len → Wide h → Right (ed .mark) (s .progress) h
+  pub sealed-accepted : (ed : Edition) (s : Progress) (h : Head) (p : List ℕ) → Bytes (ed .tail (s .last)) → Bytes p → length p ≡ h .len → Wide h → Right (ed .mark) s h
       → judge (with true) ed s (sealed ek (cmac ck) (ed .tail (s .last)) h p) ≡ Accepted
   sealed-accepted ed s h p bt bp lp w r =
       let tail = ed .tail (s .last) in
@@ -319,9 +319,9 @@ module _ (ek ck : BlockCipher) (le : Lawful 16 ek) (lc : Lawful 16 ck) where
       go false e = e
 
   -- hence it is refused by every reader of the edition whose last check is the one that it was sealed on
-  pub damaged-refused : (ed : Edition) (usable : Bool) (s : Standing) (h : Head) (p : List ℕ) → Bytes (ed .tail (s .last)) → length p ≤ 480 → Bytes p
+  pub damaged-refused : (ed : Edition) (usable : Bool) (s : Progress) (h : Head) (p : List ℕ) → Bytes (ed .tail (s .last)) → length p ≤ 480 → Bytes p
       → (i : ℕ) (b : List ℕ) → length b ≡ 512 → Bytes b → SameOutside i b (sealed ek (cmac ck) (ed .tail (s .last)) h p) → (b ≡ sealed ek (cmac ck) (ed .tail (s .last)) h p → ⊥)
-      → judge (with usable) ed s b ≡ unchecked (s .progress)
+      → judge (with usable) ed s b ≡ unchecked s
   damaged-refused ed usable s h p bt lp bp i b lb bb o n =
       wrong-check (with usable) ed s b (damaged-check (ed .tail (s .last)) h p bt lp bp i b lb bb o n)
 
@@ -354,7 +354,7 @@ module _ (ek : BlockCipher) (le : Lawful 16 ek) (b : List ℕ) (lb : length b �
   enciphered = undone-16 ek le CbcDecrypt (ek .enc (take 16 b)) cipher iv-octets (cipher-octets .bytes) whole-pieces
 
 -- what an accepted block opens to is its payload and zero fill, and the block is the sealing of its header and payload
-module _ (k : Keys) (le : Lawful 16 (k .enc)) (ed : Edition) (s : Standing) (b : List ℕ) (lb : length b ≡ 512) (bb : Bytes b) (m : Met k ed s b) where
+module _ (k : Keys) (le : Lawful 16 (k .enc)) (ed : Edition) (s : Progress) (b : List ℕ) (lb : length b ≡ 512) (bb : Bytes b) (m : Met k ed s b) where
   small : headOf b .len ≤ 480
   small = fits-le (headOf b .number) (headOf b .count) (headOf b .len) (m .head-right .len-fits)
 

@@ -19,9 +19,10 @@ use Rattle.layout.specs.Layout.{headOf}
 use Rattle.header.specs.Rules.{done, lengthFits}
 use Rattle.layout.specs.declared.Head.{Head}
 use Rattle.layout.proofs.Laws.{Wide}
-use Rattle.format.specs.Edition.{Edition, one, noCheck}
+use Rattle.format.specs.Edition.{Edition, noCheck}
+use Rattle.header.specs.declared.Progress.{Progress}
 use Rattle.format.specs.Sealed.{headFor, blockFor, sealed}
-use Rattle.format.specs.Judge.{Keys, Standing, standing, judge, fresh, taken, ofEdition}
+use Rattle.format.specs.Judge.{Keys, Rule, always, either, byRule, ofBoth, fresh, taken}
 use Rattle.turns.specs.Turn.{Reading, readBlocks, blocksRead}
 use Rattle.turns.specs.declared.Stop.the-variants.{End}
 use Rattle.image.specs.Calls.{keysOf, turnAfter, turnOf}
@@ -36,14 +37,14 @@ use Rattle.promises.proofs.Lemmas.ImageCalls.{fair-turn, by-turn}
 
 -- ---- blocks that pass, by the run over them
 
-module _ (k : Keys) (ed : Edition) where
+module _ (k : Keys) (rule : Rule) where
   -- a run that ends without a refusal, and blocks that pass from where it ended
-  pub front-passes : (s : Standing) (bs cs : List (List ℕ)) → readBlocks (ofEdition k ed) s bs .stop ≡ End → Passes k ed (readBlocks (ofEdition k ed) s bs .standing) cs → Passes k ed s (bs ++ cs)
+  pub front-passes : (s : Progress) (bs cs : List (List ℕ)) → readBlocks (byRule k rule) s bs .stop ≡ End → Passes k rule (readBlocks (byRule k rule) s bs .progress) cs → Passes k rule s (bs ++ cs)
   unfolding readBlocks
   front-passes s [] cs = λ e p. p
   front-passes s (b ∷ bs) cs =
-      by-verdict (ofEdition k ed) s b bs (λ (t : Reading). t .stop ≡ End → Passes k ed (t .standing) cs → Passes k ed s (b ∷ (bs ++ cs)))
-      (λ a e p. (a, front-passes (taken s b) bs cs (later-end (readBlocks (ofEdition k ed) (taken s b) bs .stop) e) p))
+      by-verdict (byRule k rule) s b bs (λ (t : Reading). t .stop ≡ End → Passes k rule (t .progress) cs → Passes k rule s (b ∷ (bs ++ cs)))
+      (λ a e p. (a, front-passes (taken s b) bs cs (later-end (readBlocks (byRule k rule) (taken s b) bs .stop) e) p))
       (λ r a e p. absurd (not-end 0 r e))
 
 -- ---- lengths by their place
@@ -116,18 +117,18 @@ module _ (ed : Edition) (ek ck : BlockCipher) where
     abbrev keys : Keys
     keys = record { enc = ek; mac = cmac ck; usable = true }
 
-    module _ (s : Standing) (b : List ℕ) (o : Octets 512 b) (m : Met keys ed s b) where
+    module _ (s : Progress) (b : List ℕ) (o : Octets 512 b) (m : Met keys ed s b) where
       abbrev p : List ℕ
       p = payload ek b
 
       abbrev next : ℕ
-      next = s .progress .next
+      next = s .next
 
       size : length p ≡ headOf b .len
       size = payload-length keys le ed s b (o .size) (o .bytes) m
 
       below : next < headOf b .count
-      below = omega (arith, right-below (ed .mark) (s .progress) (headOf b) (m .head-right), m .head-right .expected)
+      below = omega (arith, right-below (ed .mark) s (headOf b) (m .head-right), m .head-right .expected)
 
       fits : lengthFits next (headOf b .count) (length p) ≡ true
       fits = ap₂ (λ (n l : ℕ). lengthFits n (headOf b .count) l) (sym (m .head-right .expected)) size ∙ m .head-right .len-fits
@@ -155,12 +156,12 @@ module _ (ed : Edition) (ek ck : BlockCipher) where
           )
 
     -- once a block has been accepted
-    rest-of : (s : Standing) (bs : List (List ℕ)) → Passes keys ed s bs → Blocks bs → 0 < s .progress .next → Rest (s .progress .count) (s .progress .release) (s .last) (s .progress .next) bs
+    rest-of : (s : Progress) (bs : List (List ℕ)) → Passes keys (always ed) s bs → Blocks bs → 0 < s .next → Rest (s .count) (s .release) (s .last) (s .next) bs
     unfolding written done
     rest-of s [] d w f =
-        let e : s .progress .next ≡ s .progress .count = eqb-true (s .progress .next) (s .progress .count) (both (ltb 0 (s .progress .next)) (eqb (s .progress .next) (s .progress .count)) d) in
-        let z : s .progress .count - s .progress .next ≡ 0 = omega arith in (
-          ap (λ (n : ℕ). written ed ek ck (s .progress .count) (s .progress .release) (s .last) (s .progress .next) n []) (sym z),
+        let e : s .next ≡ s .count = eqb-true (s .next) (s .count) (both (ltb 0 (s .next)) (eqb (s .next) (s .count)) d) in
+        let z : s .count - s .next ≡ 0 = omega arith in (
+          ap (λ (n : ℕ). written ed ek ck (s .count) (s .release) (s .last) (s .next) n []) (sym z),
           record { most = omega arith; least = λ a b. omega arith },
           λ k. omega arith,
         )
@@ -170,11 +171,11 @@ module _ (ed : Edition) (ek ck : BlockCipher) where
         both false b e = let z : _≡_ {A = ℕ} 0 1 = cc in absurd (omega arith)
     rest-of s (b ∷ bs) d w f =
         let m = accepted-met keys ed s b (d .0) in
-        subst₂ (λ (N R : ℕ). Rest N R (s .last) (s .progress .next) (b ∷ bs)) (m .head-right .same-count f) (m .head-right .same-release f)
+        subst₂ (λ (N R : ℕ). Rest N R (s .last) (s .next) (b ∷ bs)) (m .head-right .same-count f) (m .head-right .same-release f)
         (step s b (w .0) m bs (rest-of (taken s b) bs (d .1) (w .1) (omega arith)))
 
     -- what passes from the start on is the image of the payloads that it holds, under the release number of its first block
-    pub passes-image : (bs : List (List ℕ)) → Blocks bs → Passes keys ed fresh bs
+    pub passes-image : (bs : List (List ℕ)) → Blocks bs → Passes keys (always ed) fresh bs
         → (releaseOf bs < 4294967296) × (length (parts ek bs) ≤ 31456800) × Bytes (parts ek bs) × (bs ≡ image ed ek ck (releaseOf bs) (parts ek bs))
     unfolding done
     passes-image [] w d = let z : _≡_ {A = ℕ} 0 1 = cc in absurd (omega arith)
@@ -219,27 +220,21 @@ end-fair r lent asked out =
     (λ e. let z : _≡_ {A = ℕ} 0 1 = cc in absurd (omega arith)) (λ e. let z : _≡_ {A = ℕ} 0 1 = cc in absurd (omega arith)) (λ e. let z : _≡_ {A = ℕ} 0 1 = cc in absurd (omega arith))
     (λ f e. f)
 
--- edition 1 asks nothing of the check before, so a turn may begin without it
-passes-since : (k : Keys) (s : Standing) (bs : List (List ℕ)) → Passes k one (standing (s .progress)) bs → Passes k one s bs
-unfolding judge
-passes-since k s [] p = p
-passes-since k s (b ∷ bs) p = p
-
 -- turns that accept all that they handle, and a reader that is complete after them: the blocks pass
 pub turns-passed : (k : Keys) (r : Reader) → keysOf r ≡ k → (ls : List Lending) → AllAccepted r ls → done (readerAfter r ls .progress) ≡ true
-    → AllFair ls × Passes k one (standing (r .progress)) (offered ls)
+    → AllFair ls × Passes k either (r .progress) (offered ls)
 turns-passed k r e [] a d = (tt, d)
 turns-passed k r e (l ∷ ls) a d =
     let bs = given (l .lent) (l .asked) in
-    let s = standing (r .progress) in
+    let s = r .progress in
     let R = readingOf r (l .lent) (l .asked) in
     let f = end-fair r (l .lent) (l .asked) (l .out) (a .0) in
     let t : (R .stop ≡ End) × AllAccepted (turnAfter r (blocksRead R) .reader) ls × (done (readerAfter (turnAfter r (blocksRead R) .reader) ls .progress) ≡ true) =
     subst (λ (x : Turn × List ℕ). (x .0 .stop ≡ End) × AllAccepted (x .0 .reader) ls × (done (readerAfter (x .0 .reader) ls .progress) ≡ true)) (fair-turn r (l .lent) (l .asked) (l .out) f) (a .0, a .2, d) in
     let ih = turns-passed k (turnAfter r (blocksRead R) .reader) e ls (t .1) (t .2) in
-    let er : R ≡ readBlocks (ofEdition k one) s bs = ap (λ (x : Keys). readBlocks (ofEdition x one) s bs) e in
-    let p : (readBlocks (ofEdition k one) s bs .stop ≡ End) × Passes k one (standing (readBlocks (ofEdition k one) s bs .standing .progress)) (offered ls) =
-    subst (λ (x : Reading). (x .stop ≡ End) × Passes k one (standing (x .standing .progress)) (offered ls)) er (t .0, ih .1) in (
+    let er : R ≡ readBlocks (ofBoth k) s bs = ap (λ (x : Keys). readBlocks (ofBoth x) s bs) e in
+    let p : (readBlocks (ofBoth k) s bs .stop ≡ End) × Passes k either (readBlocks (ofBoth k) s bs .progress) (offered ls) =
+    subst (λ (x : Reading). (x .stop ≡ End) × Passes k either (x .progress) (offered ls)) er (t .0, ih .1) in (
       (f, ih .0),
-      front-passes k one s bs (offered ls) (p .0) (passes-since k (readBlocks (ofEdition k one) s bs .standing) (offered ls) (p .1)),
+      front-passes k either s bs (offered ls) (p .0) (p .1),
     )

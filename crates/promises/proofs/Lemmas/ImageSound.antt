@@ -10,28 +10,27 @@ use Rattle.layout.specs.Layout.{headOf}
 use Rattle.header.specs.Rules.{done, closed}
 use Rattle.header.specs.declared.Progress.{Progress}
 use Rattle.header.specs.declared.Verdict.the-variants.{Accepted}
-use Rattle.format.specs.Edition.{Edition}
-use Rattle.format.specs.Judge.{Keys, Standing, begun, judge, taken, ofEdition}
+use Rattle.format.specs.Judge.{Keys, Rule, byRule, fresh, taken}
 use Rattle.turns.specs.Turn.{Reading, readBlocks}
 use Rattle.promises.proofs.ImageTerms.{Sound}
 use Rattle.promises.proofs.Lemmas.ImageJudge.{accepted-met, right-below}
 use Rattle.promises.proofs.Lemmas.ImageTurn.{by-verdict}
 
-pub begun-sound : Sound begun
-begun-sound = record { within = λ e. absurd (omega arith) }
+pub fresh-sound : Sound fresh
+fresh-sound = record { within = λ e. absurd (omega arith) }
 
-module _ (k : Keys) (ed : Edition) where
-  taken-sound : (s : Standing) (b : List ℕ) → judge k ed s b ≡ Accepted → Sound (taken s b .progress)
+module _ (k : Keys) (rule : Rule) where
+  taken-sound : (s : Progress) (b : List ℕ) → byRule k rule .verdict s b ≡ Accepted → Sound (taken s b)
   taken-sound s b e =
-      let m = accepted-met k ed s b e .head-right in
-      record { within = λ f. (omega (arith, m .expected, right-below (ed .mark) (s .progress) (headOf b) m), m .count-high) }
+      let m = accepted-met k (rule s (headOf b .reserved)) s b e .head-right in
+      record { within = λ f. (omega (arith, m .expected, right-below (rule s (headOf b .reserved) .mark) s (headOf b) m), m .count-high) }
 
   -- what a run leaves is sound
-  pub ran-sound : (s : Standing) (bs : List (List ℕ)) → Sound (s .progress) → Sound (readBlocks (ofEdition k ed) s bs .standing .progress)
+  pub ran-sound : (s : Progress) (bs : List (List ℕ)) → Sound s → Sound (readBlocks (byRule k rule) s bs .progress)
   unfolding readBlocks
   ran-sound s [] w = w
   ran-sound s (b ∷ bs) w =
-      by-verdict (ofEdition k ed) s b bs (λ (t : Reading). Sound (t .standing .progress)) (λ e. ran-sound (taken s b) bs (taken-sound s b e)) (λ y e. w)
+      by-verdict (byRule k rule) s b bs (λ (t : Reading). Sound (t .progress)) (λ e. ran-sound (taken s b) bs (taken-sound s b e)) (λ y e. w)
 
 -- in a sound state no block may follow exactly where the last has been accepted
 pub sound-end : (s : Progress) → Sound s → closed s ≡ done s

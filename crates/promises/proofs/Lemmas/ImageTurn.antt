@@ -12,9 +12,9 @@ use Rattle.layout.specs.Layout.{headOf}
 use Rattle.header.specs.declared.Reason.{Reason}
 use Rattle.header.specs.declared.Verdict.{Verdict}
 use Rattle.header.specs.declared.Verdict.the-variants.{Accepted, Refused}
-use Rattle.format.specs.Edition.{Edition}
+use Rattle.header.specs.declared.Progress.{Progress}
 use Rattle.format.specs.Sealed.{opened}
-use Rattle.format.specs.Judge.{Keys, Standing, taken, BlockReader, ofEdition}
+use Rattle.format.specs.Judge.{Keys, BlockReader, Rule, byRule, taken}
 use Rattle.turns.specs.Turn.{Reading, later, onward, readBlocks}
 use Rattle.turns.specs.declared.Stop.{Stop}
 use Rattle.turns.specs.declared.Stop.the-variants.{End, Asked, Lent, Room, At}
@@ -63,20 +63,20 @@ by-none (At p r) = ap (λ (q : ℕ). At q r) (zero-add p)
 -- ---- a run by its first block, for every reader of blocks
 
 module _ (d : BlockReader) where
-  pub ran-accepted : (s : Standing) (b : List ℕ) (bs : List (List ℕ)) → d .verdict s b ≡ Accepted
+  pub ran-accepted : (s : Progress) (b : List ℕ) (bs : List (List ℕ)) → d .verdict s b ≡ Accepted
       → readBlocks d s (b ∷ bs) ≡ onward Accepted s (headOf b .len) (d .plain b) (readBlocks d (taken s b) bs)
   unfolding readBlocks
   ran-accepted s b bs e = rw e
 
   -- a refused block changes nothing, and ends the run
-  pub ran-refused : (s : Standing) (b : List ℕ) (bs : List (List ℕ)) (r : Reason) → d .verdict s b ≡ Refused r
-      → readBlocks d s (b ∷ bs) ≡ record { standing = s; accepted = 0; bytes = 0; stop = At 0 r; out = [] }
+  pub ran-refused : (s : Progress) (b : List ℕ) (bs : List (List ℕ)) (r : Reason) → d .verdict s b ≡ Refused r
+      → readBlocks d s (b ∷ bs) ≡ record { progress = s; accepted = 0; bytes = 0; stop = At 0 r; out = [] }
   unfolding readBlocks
   ran-refused s b bs r e = rw e
 
-  pub by-verdict : (s : Standing) (b : List ℕ) (bs : List (List ℕ)) (P : Reading → Type 0)
+  pub by-verdict : (s : Progress) (b : List ℕ) (bs : List (List ℕ)) (P : Reading → Type 0)
       → (d .verdict s b ≡ Accepted → P (onward Accepted s (headOf b .len) (d .plain b) (readBlocks d (taken s b) bs)))
-      → ((r : Reason) → d .verdict s b ≡ Refused r → P (record { standing = s; accepted = 0; bytes = 0; stop = At 0 r; out = [] })) → P (readBlocks d s (b ∷ bs))
+      → ((r : Reason) → d .verdict s b ≡ Refused r → P (record { progress = s; accepted = 0; bytes = 0; stop = At 0 r; out = [] })) → P (readBlocks d s (b ∷ bs))
   unfolding readBlocks
   by-verdict s b bs P f g = go (d .verdict s b) refl
     where
@@ -87,14 +87,14 @@ module _ (d : BlockReader) where
   -- ---- what was accepted
 
   -- the blocks accepted are the advance of the number expected
-  pub advance : (s : Standing) (bs : List (List ℕ)) → readBlocks d s bs .standing .progress .next ≡ s .progress .next + readBlocks d s bs .accepted
+  pub advance : (s : Progress) (bs : List (List ℕ)) → readBlocks d s bs .progress .next ≡ s .next + readBlocks d s bs .accepted
   unfolding readBlocks
   advance s [] = omega arith
   advance s (b ∷ bs) =
-      by-verdict s b bs (λ (t : Reading). t .standing .progress .next ≡ s .progress .next + t .accepted)
+      by-verdict s b bs (λ (t : Reading). t .progress .next ≡ s .next + t .accepted)
       (λ e. omega (arith, advance (taken s b) bs)) (λ r e. omega arith)
 
-  pub accepted-le : (s : Standing) (bs : List (List ℕ)) → readBlocks d s bs .accepted ≤ length bs
+  pub accepted-le : (s : Progress) (bs : List (List ℕ)) → readBlocks d s bs .accepted ≤ length bs
   unfolding readBlocks
   accepted-le s [] = omega arith
   accepted-le s (b ∷ bs) =
@@ -102,7 +102,7 @@ module _ (d : BlockReader) where
       (λ e. omega (arith, accepted-le (taken s b) bs)) (λ r e. omega arith)
 
   -- where nothing is refused, all were
-  pub end-all : (s : Standing) (bs : List (List ℕ)) → readBlocks d s bs .stop ≡ End → readBlocks d s bs .accepted ≡ length bs
+  pub end-all : (s : Progress) (bs : List (List ℕ)) → readBlocks d s bs .stop ≡ End → readBlocks d s bs .accepted ≡ length bs
   unfolding readBlocks
   end-all s [] = λ h. refl
   end-all s (b ∷ bs) =
@@ -111,7 +111,7 @@ module _ (d : BlockReader) where
       (λ r e h. absurd (not-end 0 r h))
 
   -- a run stops at its end or at a block, and in no other way
-  pub ends-or-at : (s : Standing) (bs : List (List ℕ)) (P : Type 0) → (readBlocks d s bs .stop ≡ End → P) → ((r : Reason) → readBlocks d s bs .stop ≡ At (readBlocks d s bs .accepted) r → P) → P
+  pub ends-or-at : (s : Progress) (bs : List (List ℕ)) (P : Type 0) → (readBlocks d s bs .stop ≡ End → P) → ((r : Reason) → readBlocks d s bs .stop ≡ At (readBlocks d s bs .accepted) r → P) → P
   unfolding readBlocks
   ends-or-at s [] P = λ f g. f refl
   ends-or-at s (b ∷ bs) P =
@@ -120,15 +120,15 @@ module _ (d : BlockReader) where
       (λ r e f g. g r refl)
 
   -- the place of the refused block is the number of those accepted, and its reason is its verdict where the run ended
-  pub stop-place : (s : Standing) (bs : List (List ℕ)) (p : ℕ) (r : Reason) → readBlocks d s bs .stop ≡ At p r
-      → (p ≡ readBlocks d s bs .accepted) × (p < length bs) × (d .verdict (readBlocks d s bs .standing) (getD bs p []) ≡ Refused r)
+  pub stop-place : (s : Progress) (bs : List (List ℕ)) (p : ℕ) (r : Reason) → readBlocks d s bs .stop ≡ At p r
+      → (p ≡ readBlocks d s bs .accepted) × (p < length bs) × (d .verdict (readBlocks d s bs .progress) (getD bs p []) ≡ Refused r)
   unfolding readBlocks
   stop-place s [] p r = λ h. absurd (not-end p r (sym h))
   stop-place s (b ∷ bs) p r =
-      by-verdict s b bs (λ (t : Reading). t .stop ≡ At p r → (p ≡ t .accepted) × (p < length (b ∷ bs)) × (d .verdict (t .standing) (getD (b ∷ bs) p []) ≡ Refused r))
+      by-verdict s b bs (λ (t : Reading). t .stop ≡ At p r → (p ≡ t .accepted) × (p < length (b ∷ bs)) × (d .verdict (t .progress) (getD (b ∷ bs) p []) ≡ Refused r))
       (λ e h.
       let t = readBlocks d (taken s b) bs in
-      later-at (t .stop) p r ((p ≡ suc (t .accepted)) × (p < length (b ∷ bs)) × (d .verdict (t .standing) (getD (b ∷ bs) p []) ≡ Refused r)) h
+      later-at (t .stop) p r ((p ≡ suc (t .accepted)) × (p < length (b ∷ bs)) × (d .verdict (t .progress) (getD (b ∷ bs) p []) ≡ Refused r)) h
       (λ q i j. let ih = stop-place (taken s b) bs q r j in rw i (ap suc (ih .0), omega (arith, ih .1), ih .2)))
       (λ y e h.
       let i : p ≡ 0 = cc in
@@ -136,13 +136,13 @@ module _ (d : BlockReader) where
       rw i (refl, omega arith, e ∙ ap Refused j))
 
   -- a block that is refused wherever the reader stands is where the run ends, if it gets there
-  pub stops-by : (s : Standing) (bs : List (List ℕ)) (p : ℕ) (why : Standing → Reason) → p < length bs → ((t : Standing) → d .verdict t (getD bs p []) ≡ Refused (why t))
-      → (readBlocks d s bs .accepted ≤ p) × (readBlocks d s bs .accepted ≡ p → readBlocks d s bs .stop ≡ At p (why (readBlocks d s bs .standing)))
+  pub stops-by : (s : Progress) (bs : List (List ℕ)) (p : ℕ) (why : Progress → Reason) → p < length bs → ((t : Progress) → d .verdict t (getD bs p []) ≡ Refused (why t))
+      → (readBlocks d s bs .accepted ≤ p) × (readBlocks d s bs .accepted ≡ p → readBlocks d s bs .stop ≡ At p (why (readBlocks d s bs .progress)))
   unfolding readBlocks
   stops-by s [] p why = λ h f. absurd (omega arith)
   stops-by s (b ∷ bs) zero why =
       by-verdict s b bs
-      (λ (t : Reading). 0 < length (b ∷ bs) → ((u : Standing) → d .verdict u b ≡ Refused (why u)) → (t .accepted ≤ 0) × (t .accepted ≡ 0 → t .stop ≡ At 0 (why (t .standing))))
+      (λ (t : Reading). 0 < length (b ∷ bs) → ((u : Progress) → d .verdict u b ≡ Refused (why u)) → (t .accepted ≤ 0) × (t .accepted ≡ 0 → t .stop ≡ At 0 (why (t .progress))))
       (λ e h f. absurd (unlike (sym e ∙ f s)))
       (λ r e h f. let q : Refused r ≡ Refused (why s) = sym e ∙ f s in let j : r ≡ why s = cc in (omega arith, λ z. ap (At 0) j))
     where
@@ -150,29 +150,29 @@ module _ (d : BlockReader) where
       unlike q = let z : _≡_ {A = ℕ} 0 1 = cc in omega arith
   stops-by s (b ∷ bs) (suc p) why =
       by-verdict s b bs
-      (λ (t : Reading). suc p < length (b ∷ bs) → ((u : Standing) → d .verdict u (getD bs p []) ≡ Refused (why u))
-      → (t .accepted ≤ suc p) × (t .accepted ≡ suc p → t .stop ≡ At (suc p) (why (t .standing))))
+      (λ (t : Reading). suc p < length (b ∷ bs) → ((u : Progress) → d .verdict u (getD bs p []) ≡ Refused (why u))
+      → (t .accepted ≤ suc p) × (t .accepted ≡ suc p → t .stop ≡ At (suc p) (why (t .progress))))
       (λ e h f. let ih = stops-by (taken s b) bs p why (omega arith) f in (omega (arith, ih .0), λ z. ap later (ih .1 (omega arith))))
       (λ r e h f. (omega arith, λ z. absurd (omega arith)))
 
   -- where none was accepted, nothing was
-  pub none-accepted : (s : Standing) (bs : List (List ℕ)) → readBlocks d s bs .accepted ≡ 0
-      → (readBlocks d s bs .standing ≡ s) × (readBlocks d s bs .bytes ≡ 0) × (readBlocks d s bs .out ≡ [])
+  pub none-accepted : (s : Progress) (bs : List (List ℕ)) → readBlocks d s bs .accepted ≡ 0
+      → (readBlocks d s bs .progress ≡ s) × (readBlocks d s bs .bytes ≡ 0) × (readBlocks d s bs .out ≡ [])
   unfolding readBlocks
   none-accepted s [] = λ h. (refl, refl, refl)
   none-accepted s (b ∷ bs) =
-      by-verdict s b bs (λ (t : Reading). t .accepted ≡ 0 → (t .standing ≡ s) × (t .bytes ≡ 0) × (t .out ≡ []))
+      by-verdict s b bs (λ (t : Reading). t .accepted ≡ 0 → (t .progress ≡ s) × (t .bytes ≡ 0) × (t .out ≡ []))
       (λ e h. absurd (omega arith)) (λ r e h. (refl, refl, refl))
 
   -- the reader moves by the accepted blocks alone
-  pub ran-state : (s : Standing) (bs : List (List ℕ)) → readBlocks d s bs .standing ≡ moved s (take (readBlocks d s bs .accepted) bs)
+  pub ran-state : (s : Progress) (bs : List (List ℕ)) → readBlocks d s bs .progress ≡ moved s (take (readBlocks d s bs .accepted) bs)
   unfolding readBlocks
   ran-state s [] = refl
   ran-state s (b ∷ bs) =
-      by-verdict s b bs (λ (t : Reading). t .standing ≡ moved s (take (t .accepted) (b ∷ bs)))
+      by-verdict s b bs (λ (t : Reading). t .progress ≡ moved s (take (t .accepted) (b ∷ bs)))
       (λ e. ran-state (taken s b) bs) (λ r e. refl)
 
-  pub ran-bytes : (s : Standing) (bs : List (List ℕ)) → readBlocks d s bs .bytes ≡ lengths (take (readBlocks d s bs .accepted) bs)
+  pub ran-bytes : (s : Progress) (bs : List (List ℕ)) → readBlocks d s bs .bytes ≡ lengths (take (readBlocks d s bs .accepted) bs)
   unfolding readBlocks
   ran-bytes s [] = refl
   ran-bytes s (b ∷ bs) =
@@ -181,8 +181,8 @@ module _ (d : BlockReader) where
 
   -- ---- one run after another
 
-  pub ran-append : (s : Standing) (cs bs : List (List ℕ)) → readBlocks d s cs .stop ≡ End
-      → readBlocks d s (cs ++ bs) ≡ andThen (readBlocks d s cs) (readBlocks d (readBlocks d s cs .standing) bs)
+  pub ran-append : (s : Progress) (cs bs : List (List ℕ)) → readBlocks d s cs .stop ≡ End
+      → readBlocks d s (cs ++ bs) ≡ andThen (readBlocks d s cs) (readBlocks d (readBlocks d s cs .progress) bs)
   unfolding readBlocks
   ran-append s [] bs h =
       let t = readBlocks d s bs in
@@ -195,7 +195,7 @@ module _ (d : BlockReader) where
       r = readBlocks d (taken s c) cs
 
       t : Reading
-      t = readBlocks d (r .standing) bs
+      t = readBlocks d (r .progress) bs
 
       joins : (x : Reading) → x ≡ andThen r t
           → onward Accepted s (headOf c .len) (d .plain c) x ≡ andThen (onward Accepted s (headOf c .len) (d .plain c) r) t
@@ -210,76 +210,96 @@ module _ (d : BlockReader) where
           count = omega arith
 
           parts-same : {u u' : Stop} {n n' : ℕ} {o o' : List ℕ} → u ≡ u' → n ≡ n' → o ≡ o'
-              → _≡_ {A = Reading} (record { standing = t .standing; accepted = suc (r .accepted + t .accepted); bytes = n; stop = u; out = o })
-              (record { standing = t .standing; accepted = suc (r .accepted) + t .accepted; bytes = n'; stop = u'; out = o' })
+              → _≡_ {A = Reading} (record { progress = t .progress; accepted = suc (r .accepted + t .accepted); bytes = n; stop = u; out = o })
+              (record { progress = t .progress; accepted = suc (r .accepted) + t .accepted; bytes = n'; stop = u'; out = o' })
           parts-same p q o = rw (p, q, o, count)
 
       go : (v : Verdict) → d .verdict s c ≡ v → onward v s (headOf c .len) (d .plain c) r .stop ≡ End
           → (r .stop ≡ End → readBlocks d (taken s c) (cs ++ bs) ≡ andThen r t)
           → onward v s (headOf c .len) (d .plain c) (readBlocks d (taken s c) (cs ++ bs))
-          ≡ andThen (onward v s (headOf c .len) (d .plain c) r) (readBlocks d (onward v s (headOf c .len) (d .plain c) r .standing) bs)
+          ≡ andThen (onward v s (headOf c .len) (d .plain c) r) (readBlocks d (onward v s (headOf c .len) (d .plain c) r .progress) bs)
       go Accepted e q ih = joins (readBlocks d (taken s c) (cs ++ bs)) (ih (later-end (r .stop) q))
       go (Refused y) e q ih = absurd (not-end 0 y q)
 
--- ---- the reader of an edition
+  -- a block that is refused where the reader stands after those before it is where the run ends, if it gets there
+  pub stops-at : (s : Progress) (bs : List (List ℕ)) (p : ℕ) (r : Reason) → p < length bs → d .verdict (moved s (take p bs)) (getD bs p []) ≡ Refused r
+      → (readBlocks d s bs .accepted ≤ p) × (readBlocks d s bs .accepted ≡ p → (readBlocks d s bs .stop ≡ At p r) × (readBlocks d s bs .progress ≡ moved s (take p bs)))
+  unfolding readBlocks
+  stops-at s [] p r = λ h f. absurd (omega arith)
+  stops-at s (b ∷ bs) zero r =
+      by-verdict s b bs
+      (λ (t : Reading). 0 < length (b ∷ bs) → d .verdict s b ≡ Refused r → (t .accepted ≤ 0) × (t .accepted ≡ 0 → (t .stop ≡ At 0 r) × (t .progress ≡ s)))
+      (λ e h f. absurd (unlike (sym e ∙ f)))
+      (λ y e h f. let q : Refused y ≡ Refused r = sym e ∙ f in let j : y ≡ r = cc in (omega arith, λ z. (ap (At 0) j, refl)))
+    where
+      unlike : Accepted ≡ Refused r → ⊥
+      unlike q = let z : _≡_ {A = ℕ} 0 1 = cc in omega arith
+  stops-at s (b ∷ bs) (suc p) r =
+      by-verdict s b bs
+      (λ (t : Reading). suc p < length (b ∷ bs) → d .verdict (moved (taken s b) (take p bs)) (getD bs p []) ≡ Refused r
+      → (t .accepted ≤ suc p) × (t .accepted ≡ suc p → (t .stop ≡ At (suc p) r) × (t .progress ≡ moved (taken s b) (take p bs))))
+      (λ e h f. let ih = stops-at (taken s b) bs p r (omega arith) f in (omega (arith, ih .0), λ z. let i = ih .1 (omega arith) in (ap later (i .0), i .1)))
+      (λ y e h f. (omega arith, λ z. absurd (omega arith)))
 
-module _ (k : Keys) (ed : Edition) where
+-- ---- the reader by a rule
+
+module _ (k : Keys) (rule : Rule) where
   abbrev reader : BlockReader
-  reader = ofEdition k ed
+  reader = byRule k rule
 
   -- every accepted block met every test
-  pub ran-met : (s : Standing) (bs : List (List ℕ)) → AllMet k ed s (readBlocks reader s bs .accepted) bs
+  pub ran-met : (s : Progress) (bs : List (List ℕ)) → AllMet k rule s (readBlocks reader s bs .accepted) bs
   unfolding readBlocks
   ran-met s [] = tt
   ran-met s (b ∷ bs) =
-      by-verdict reader s b bs (λ (t : Reading). AllMet k ed s (t .accepted) (b ∷ bs))
-      (λ e. (accepted-met k ed s b e, ran-met (taken s b) bs)) (λ r e. tt)
+      by-verdict reader s b bs (λ (t : Reading). AllMet k rule s (t .accepted) (b ∷ bs))
+      (λ e. (accepted-met k (rule s (headOf b .reserved)) s b e, ran-met (taken s b) bs)) (λ r e. tt)
 
   -- where all do, the run ends without a refusal
-  pub met-ends : (s : Standing) (bs : List (List ℕ)) → AllMet k ed s (length bs) bs → readBlocks reader s bs .stop ≡ End
+  pub met-ends : (s : Progress) (bs : List (List ℕ)) → AllMet k rule s (length bs) bs → readBlocks reader s bs .stop ≡ End
   unfolding readBlocks
   met-ends s [] m = refl
-  met-ends s (b ∷ bs) m = ap (λ (t : Reading). t .stop) (ran-accepted reader s b bs (met-accepted k ed s b (m .0))) ∙ ap later (met-ends (taken s b) bs (m .1))
+  met-ends s (b ∷ bs) m = ap (λ (t : Reading). t .stop) (ran-accepted reader s b bs (met-accepted k (rule s (headOf b .reserved)) s b (m .0))) ∙ ap later (met-ends (taken s b) bs (m .1))
 
   -- ---- count and release
 
-  still-fixed : (s : Standing) (bs : List (List ℕ)) → 0 < s .progress .next
-      → (0 < readBlocks reader s bs .standing .progress .next) × (readBlocks reader s bs .standing .progress .count ≡ s .progress .count) × (readBlocks reader s bs .standing .progress .release ≡ s .progress .release)
+  still-fixed : (s : Progress) (bs : List (List ℕ)) → 0 < s .next
+      → (0 < readBlocks reader s bs .progress .next) × (readBlocks reader s bs .progress .count ≡ s .count) × (readBlocks reader s bs .progress .release ≡ s .release)
   unfolding readBlocks
   still-fixed s [] f = (f, refl, refl)
   still-fixed s (b ∷ bs) f =
       by-verdict reader s b bs
-      (λ (t : Reading). (0 < t .standing .progress .next) × (t .standing .progress .count ≡ s .progress .count) × (t .standing .progress .release ≡ s .progress .release))
+      (λ (t : Reading). (0 < t .progress .next) × (t .progress .count ≡ s .count) × (t .progress .release ≡ s .release))
       (λ e.
       let ih = still-fixed (taken s b) bs (omega arith) in
-      let m = accepted-met k ed s b e .head-right in
+      let m = accepted-met k (rule s (headOf b .reserved)) s b e .head-right in
       (ih .0, ih .1 ∙ m .same-count f, ih .2 ∙ m .same-release f))
       (λ r e. (f, refl, refl))
 
   -- the first accepted block fixes them, for all that follow
-  pub first-fixes : (s : Standing) (b : List ℕ) (bs : List (List ℕ)) → 0 < readBlocks reader s (b ∷ bs) .accepted
-      → (0 < readBlocks reader s (b ∷ bs) .standing .progress .next)
-      × (readBlocks reader s (b ∷ bs) .standing .progress .count ≡ headOf b .count) × (readBlocks reader s (b ∷ bs) .standing .progress .release ≡ headOf b .release)
+  pub first-fixes : (s : Progress) (b : List ℕ) (bs : List (List ℕ)) → 0 < readBlocks reader s (b ∷ bs) .accepted
+      → (0 < readBlocks reader s (b ∷ bs) .progress .next)
+      × (readBlocks reader s (b ∷ bs) .progress .count ≡ headOf b .count) × (readBlocks reader s (b ∷ bs) .progress .release ≡ headOf b .release)
   first-fixes s b bs =
       by-verdict reader s b bs
       (λ (t : Reading). 0 < t .accepted
-      → (0 < t .standing .progress .next) × (t .standing .progress .count ≡ headOf b .count) × (t .standing .progress .release ≡ headOf b .release))
+      → (0 < t .progress .next) × (t .progress .count ≡ headOf b .count) × (t .progress .release ≡ headOf b .release))
       (λ e h. still-fixed (taken s b) bs (omega arith)) (λ r e h. absurd (omega arith))
 
   -- without usable keys none is accepted
-  pub no-keys-none : k .usable ≡ false → (s : Standing) (bs : List (List ℕ)) → readBlocks reader s bs .accepted ≡ 0
+  pub no-keys-none : k .usable ≡ false → (s : Progress) (bs : List (List ℕ)) → readBlocks reader s bs .accepted ≡ 0
   unfolding readBlocks
   no-keys-none u s [] = refl
   no-keys-none u s (b ∷ bs) =
       by-verdict reader s b bs (λ (t : Reading). t .accepted ≡ 0)
-      (λ e. absurd (refuses (accepted-met k ed s b e .usable-keys))) (λ r e. refl)
+      (λ e. absurd (refuses (accepted-met k (rule s (headOf b .reserved)) s b e .usable-keys))) (λ r e. refl)
     where
       refuses : k .usable ≡ true → ⊥
       refuses e = let z : true ≡ false = sym e ∙ u in let y : _≡_ {A = ℕ} 0 1 = cc in omega arith
 
   -- ---- what was handed out
 
-  pub ran-out : (s : Standing) (bs : List (List ℕ)) → readBlocks reader s bs .out ≡ plains (k .enc) (take (readBlocks reader s bs .accepted) bs)
+  pub ran-out : (s : Progress) (bs : List (List ℕ)) → readBlocks reader s bs .out ≡ plains (k .enc) (take (readBlocks reader s bs .accepted) bs)
   unfolding readBlocks
   ran-out s [] = refl
   ran-out s (b ∷ bs) =
@@ -287,7 +307,7 @@ module _ (k : Keys) (ed : Edition) where
       (λ e. ap (opened (k .enc) b ++_) (ran-out (taken s b) bs)) (λ r e. refl)
 
   -- 480 bytes of each accepted block
-  pub out-length : Lawful 16 (k .enc) → (s : Standing) (bs : List (List ℕ)) → Blocks bs → length (readBlocks reader s bs .out) ≡ 480 * readBlocks reader s bs .accepted
+  pub out-length : Lawful 16 (k .enc) → (s : Progress) (bs : List (List ℕ)) → Blocks bs → length (readBlocks reader s bs .out) ≡ 480 * readBlocks reader s bs .accepted
   unfolding readBlocks
   out-length l s [] w = refl
   out-length l s (b ∷ bs) w =
@@ -299,7 +319,7 @@ module _ (k : Keys) (ed : Edition) where
       (λ r e. refl)
 
   -- accepted block j has its bytes at 480j
-  pub out-at : Lawful 16 (k .enc) → (s : Standing) (bs : List (List ℕ)) → Blocks bs → (rest : List ℕ) (j : ℕ) → j < readBlocks reader s bs .accepted
+  pub out-at : Lawful 16 (k .enc) → (s : Progress) (bs : List (List ℕ)) → Blocks bs → (rest : List ℕ) (j : ℕ) → j < readBlocks reader s bs .accepted
       → take 480 (drop (480 * j) (readBlocks reader s bs .out ++ rest)) ≡ opened (k .enc) (getD bs j [])
   unfolding readBlocks
   out-at l s [] w rest j = λ h. absurd (omega arith)
@@ -323,13 +343,13 @@ module _ (k : Keys) (ed : Edition) where
 
 -- ---- payloads
 
-pub met-filled : (k : Keys) (ed : Edition) → Lawful 16 (k .enc) → (s : Standing) (n : ℕ) (bs : List (List ℕ)) → Blocks bs → AllMet k ed s n bs → AllFilled (k .enc) (take n bs)
-met-filled k ed l s zero bs w m = tt
-met-filled k ed l s (suc n) [] w m = tt
-met-filled k ed l s (suc n) (b ∷ bs) w m = (
-  sym (payload-filled k l ed s b (w .0 .size) (w .0 .bytes) (m .0)),
-  payload-length k l ed s b (w .0 .size) (w .0 .bytes) (m .0),
-  met-filled k ed l (taken s b) n bs (w .1) (m .1),
+pub met-filled : (k : Keys) (rule : Rule) → Lawful 16 (k .enc) → (s : Progress) (n : ℕ) (bs : List (List ℕ)) → Blocks bs → AllMet k rule s n bs → AllFilled (k .enc) (take n bs)
+met-filled k rule l s zero bs w m = tt
+met-filled k rule l s (suc n) [] w m = tt
+met-filled k rule l s (suc n) (b ∷ bs) w m = (
+  sym (payload-filled k l (rule s (headOf b .reserved)) s b (w .0 .size) (w .0 .bytes) (m .0)),
+  payload-length k l (rule s (headOf b .reserved)) s b (w .0 .size) (w .0 .bytes) (m .0),
+  met-filled k rule l (taken s b) n bs (w .1) (m .1),
 )
 
 pub parts-in : (ek : BlockCipher) → Lawful 16 ek → (bs : List (List ℕ)) (rest : List ℕ) → Blocks bs → AllFilled ek bs → partsIn bs (plains ek bs ++ rest) ≡ parts ek bs

@@ -21,8 +21,9 @@ use Rattle.layout.specs.declared.Head.{Head}
 use Rattle.header.specs.declared.Verdict.the-variants.{Accepted}
 use Rattle.layout.proofs.Laws.{Wide}
 use Rattle.format.specs.Edition.{Edition, noCheck}
+use Rattle.header.specs.declared.Progress.{Progress}
 use Rattle.format.specs.Sealed.{headFor, blockFor}
-use Rattle.format.specs.Judge.{Keys, Standing, judge, fresh, taken, ofEdition}
+use Rattle.format.specs.Judge.{Keys, Rule, always, byRule, fresh, taken}
 use Rattle.turns.specs.Turn.{Reading, later, readBlocks}
 use Rattle.turns.specs.declared.Stop.the-variants.{End}
 use Rattle.promises.proofs.ImageTerms.{Proper, Right, Blocks, payload, parts, blocks, written, image}
@@ -33,20 +34,20 @@ use Rattle.promises.proofs.Lemmas.ImageTurn.{ran-accepted}
 -- ---- blocks that pass
 
 -- every block is accepted, and the image is complete at the end
-abbrev pub Passes : Keys → Edition → Standing → List (List ℕ) → Type 0
-Passes k ed s [] = done (s .progress) ≡ true
-Passes k ed s (b ∷ bs) = (judge k ed s b ≡ Accepted) × Passes k ed (taken s b) bs
+abbrev pub Passes : Keys → Rule → Progress → List (List ℕ) → Type 0
+Passes k rule s [] = done s ≡ true
+Passes k rule s (b ∷ bs) = (byRule k rule .verdict s b ≡ Accepted) × Passes k rule (taken s b) bs
 
-module _ (k : Keys) (ed : Edition) where
+module _ (k : Keys) (rule : Rule) where
   -- the first part of what passes
-  pub passes-front : (s : Standing) (bs cs : List (List ℕ)) → Passes k ed s (bs ++ cs)
-      → (readBlocks (ofEdition k ed) s bs .stop ≡ End) × (readBlocks (ofEdition k ed) s bs .accepted ≡ length bs) × Passes k ed (readBlocks (ofEdition k ed) s bs .standing) cs
+  pub passes-front : (s : Progress) (bs cs : List (List ℕ)) → Passes k rule s (bs ++ cs)
+      → (readBlocks (byRule k rule) s bs .stop ≡ End) × (readBlocks (byRule k rule) s bs .accepted ≡ length bs) × Passes k rule (readBlocks (byRule k rule) s bs .progress) cs
   unfolding readBlocks
   passes-front s [] cs p = (refl, refl, p)
   passes-front s (b ∷ bs) cs p =
       let ih = passes-front (taken s b) bs cs (p .1) in
-      subst (λ (t : Reading). (t .stop ≡ End) × (t .accepted ≡ length (b ∷ bs)) × Passes k ed (t .standing) cs)
-      (sym (ran-accepted (ofEdition k ed) s b bs (p .0))) (ap later (ih .0), ap suc (ih .1), ih .2)
+      subst (λ (t : Reading). (t .stop ≡ End) × (t .accepted ≡ length (b ∷ bs)) × Passes k rule (t .progress) cs)
+      (sym (ran-accepted (byRule k rule) s b bs (p .0))) (ap later (ih .0), ap suc (ih .1), ih .2)
 
 -- ---- lengths by their place
 
@@ -132,19 +133,19 @@ module _ (ed : Edition) (pe : Proper ed) (ek ck : BlockCipher) (le : Lawful 16 e
         ap₂ (λ (m : ℕ) (x : List ℕ). take m x) (ap (λ (x : Head). x .len) (block-head h)) (sealed-opened ek ck le lc (headFor ed n N R (length (take 480 p))) (take 480 p) small (take-bytes 480 p bp) (ed .tail last) tail-is)
         ∙ filled-payload (take 480 p) (length (take 480 p)) refl
 
-  written-passes : (n : ℕ) (s : Standing) (p : List ℕ) → Octets 16 (s .last) → s .progress .next + n ≡ N → (n ≡ 0 → 0 < s .progress .next) → (0 < s .progress .next → N ≡ s .progress .count)
-      → (0 < s .progress .next → R ≡ s .progress .release) → Bytes p → Left N (s .progress .next) p → Passes keys ed s (written ed ek ck N R (s .last) (s .progress .next) n p)
+  written-passes : (n : ℕ) (s : Progress) (p : List ℕ) → Octets 16 (s .last) → s .next + n ≡ N → (n ≡ 0 → 0 < s .next) → (0 < s .next → N ≡ s .count)
+      → (0 < s .next → R ≡ s .release) → Bytes p → Left N (s .next) p → Passes keys (always ed) s (written ed ek ck N R (s .last) (s .next) n p)
   unfolding written done
   written-passes zero s p ol hn hf hc hr bp t =
       let f = hf refl in
-      let e : eqb (s .progress .next) (s .progress .count) ≡ true = eq-eqb (s .progress .next) (s .progress .count) (omega (arith, hc f)) in
-      rw (lt-ltb 0 (s .progress .next) f, e) refl
+      let e : eqb (s .next) (s .count) ≡ true = eq-eqb (s .next) (s .count) (omega (arith, hc f)) in
+      rw (lt-ltb 0 (s .next) f, e) refl
   written-passes (suc n) s p ol hn hf hc hr bp t =
-      let next = s .progress .next in
+      let next = s .next in
       let below : next < N = omega arith in
       let h = headFor ed next N R (length (take 480 p)) in
       let b = block (s .last) ol next p bp in
-      let right : Right (ed .mark) (s .progress) h = record {
+      let right : Right (ed .mark) s h = record {
         still-open = λ l. omega (arith, hc l);
         count-low = omega arith;
         count-high = hN;
@@ -182,13 +183,13 @@ module _ (ed : Edition) (ek ck : BlockCipher) (N R : ℕ) where
   written-length (suc n) number last p = ap suc (written-length n (number + 1) (drop 496 (blockFor ed ek ck last number N R (take 480 p))) (drop 480 p))
 
   -- the check before block i
-  abbrev before : (last : List ℕ) (bs : List (List ℕ)) → ℕ → List ℕ
-  before last bs zero = last
-  before last bs (suc i) = drop 496 (getD bs i [])
+  abbrev pub checkBefore : (last : List ℕ) (bs : List (List ℕ)) → ℕ → List ℕ
+  checkBefore last bs zero = last
+  checkBefore last bs (suc i) = drop 496 (getD bs i [])
 
   -- block i is the sealing of the i-th 480 bytes of the payload on that check
   pub written-at : (n number : ℕ) (last p : List ℕ) (i : ℕ) → i < n
-      → getD (written ed ek ck N R last number n p) i [] ≡ blockFor ed ek ck (before last (written ed ek ck N R last number n p) i) (number + i) N R (piece 480 p i)
+      → getD (written ed ek ck N R last number n p) i [] ≡ blockFor ed ek ck (checkBefore last (written ed ek ck N R last number n p) i) (number + i) N R (piece 480 p i)
   unfolding written
   written-at zero number last p i h = absurd (omega arith)
   written-at (suc n) number last p zero h =
@@ -200,10 +201,10 @@ module _ (ed : Edition) (ek ck : BlockCipher) (N R : ℕ) where
       let c : 480 + i * 480 ≡ suc i * 480 = omega arith in
       let e : drop (i * 480) (drop 480 p) ≡ drop (suc i * 480) p = drop-drop (i * 480) 480 p ∙ ap (λ (m : ℕ). drop m p) c in
       written-at n (number + 1) (drop 496 b) (drop 480 p) i (omega arith)
-      ∙ ap₂ (λ (m : ℕ) (x : List ℕ). blockFor ed ek ck (before (drop 496 b) rest i) m N R (take 480 x)) a e
+      ∙ ap₂ (λ (m : ℕ) (x : List ℕ). blockFor ed ek ck (checkBefore (drop 496 b) rest i) m N R (take 480 x)) a e
       ∙ ap (λ (x : List ℕ). blockFor ed ek ck x (number + suc i) N R (piece 480 p (suc i))) (shift b rest i)
     where
-      shift : (b : List ℕ) (rest : List (List ℕ)) (i : ℕ) → before (drop 496 b) rest i ≡ before last (b ∷ rest) (suc i)
+      shift : (b : List ℕ) (rest : List (List ℕ)) (i : ℕ) → checkBefore (drop 496 b) rest i ≡ checkBefore last (b ∷ rest) (suc i)
       shift b rest zero = refl
       shift b rest (suc i) = refl
 
@@ -219,7 +220,7 @@ module _ (ed : Edition) (pe : Proper ed) (ek ck : BlockCipher) (le : Lawful 16 e
   pub image-parts : parts ek (image ed ek ck R p) ≡ p
   image-parts = written-parts ed pe ek ck le lc (blocks p) R few hR (blocks p) 0 noCheck p no-check-octets (zero-add (blocks p)) bp (omega arith)
 
-  pub image-passes : Passes (record { enc = ek; mac = cmac ck; usable = true }) ed fresh (image ed ek ck R p)
+  pub image-passes : Passes (record { enc = ek; mac = cmac ck; usable = true }) (always ed) fresh (image ed ek ck R p)
   image-passes =
       written-passes ed pe ek ck le lc (blocks p) R few hR (blocks p) fresh p no-check-octets (zero-add (blocks p)) (λ e. absurd (omega arith))
       (λ e. absurd (omega arith)) (λ e. absurd (omega arith)) bp (left-all p)

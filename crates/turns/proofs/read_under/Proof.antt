@@ -1,10 +1,10 @@
+use mir.Syntax.{w8}
 use mathlib.Core.Path.{ap, _∙_}
 use Rattle.octets.specs.Octets.{Bytes, over}
-use Rattle.format.specs.Judge.{standing}
 use Rattle.turns.specs.Turn.{Reading, blocksRead}
 use Rattle.turns.proofs.Agree.{reading-is}
 use native.Mathlib.Omega.{arith}
-use borrow.Author.Needs.{needs}
+use borrow.Author.Needs.{needs, elem-fits-field}
 use Rattle.turns.proofs.read_under.Statement.{statement}
 use Rattle.turns.proofs.read_under.Tie as tie
 
@@ -38,8 +38,9 @@ returns c =
     let s = iw .before .before .before .before in
     let a = s .args in
     let b : Bytes (a .blocks .now) = λ i. omega (arith, iw .before .before .before .shared-slice-known .given i) in
+    let bs : Bytes (a .progress .last) = λ i. elem-fits-field w8 w8 (a .progress .last) _ i (s .good .1 .1 .1 .0 .1 .1 .1 .1 .1 .1 .0 .1 .1) tt .fits in
     let e = reading-is _ _ _ _ _ (it .before .forward-table .ensures) (it .inverse-table .ensures) (a .ewords .now) (a .cwords .now) (a .rounds) (iw .inverse-words .ensures) (k2 .before .key1 .ensures) (k2 .key2 .ensures)
-    (a .k) (standing (a .progress)) (a .blocks .now) (s .pre .0) b in
+    (a .k) (a .progress) (a .blocks .now) bs (s .pre .0) b in
     (rn .read-blocks .ensures .0 ∙ ap blocksRead e, rn .read-blocks .ensures .1 ∙ ap (λ (x : Reading). over (x .out) (a .output .now)) e)
 
 pub read-under-spec : {M : Type 1} → statement M

@@ -180,19 +180,30 @@ fn chained(call: Chained, key: &[u8], iv: &[u8], data: &[u8], room: &[u8]) -> Op
 
 fn write(words: &[&[u8]]) -> Option<String> {
     let (keys, numbers, rest) = match words {
-        [ekey, ckey, block, count, release, rest @ ..] => {
-            ([input(ekey)?, input(ckey)?], [block, count, release], rest)
-        }
+        [ekey, ckey, number, count, release, edition, rest @ ..] => (
+            [input(ekey)?, input(ckey)?],
+            numbers([number, count, release, edition])?,
+            rest,
+        ),
         _ => return None,
     };
-    let [block, count, release] = numbers.map(|word| number(word));
-    let (payload, mut room) = match rest {
-        [payload, room] => (input(payload)?, output(room)?),
+    let (previous, payload, mut room) = match rest {
+        [previous, payload, room] => (array(previous)?, input(payload)?, output(room)?),
         _ => return None,
     };
     let [ekey, ckey] = &keys;
-    let result = dock::write(ekey, ckey, block?, count?, release?, &payload, room.lend());
+    let result = dock::write(ekey, ckey, numbers, previous, &payload, room.lend());
     Some(format!("{} {}", number_of(&result), hex(&room)))
+}
+
+fn numbers(words: [&[u8]; 4]) -> Option<dock::Numbers> {
+    let [block, count, release, edition] = words;
+    Some(dock::Numbers {
+        number: number(block)?,
+        count: number(count)?,
+        release: number(release)?,
+        edition: number(edition)?,
+    })
 }
 
 type Wrapping = fn(&[u8], &[u8], &mut [u8]) -> Result<(), Refusal>;

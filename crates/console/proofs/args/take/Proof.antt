@@ -10,7 +10,7 @@ abbrev Inv-loop : tie.InvT-loop
 Inv-loop line row ins₀ outs₀ ok₀ ends₀ numbers₀ at₀ k₀ ins outs ok ends numbers at k = (length ins ≡ length ins₀) × (length outs ≡ length outs₀)
 
 abbrev μ-loop : tie.MeasureT-loop
-μ-loop line row ins₀ outs₀ ok₀ ends₀ numbers₀ at₀ k₀ ins outs ok ends numbers at k = 8 - k
+μ-loop line row ins₀ outs₀ ok₀ ends₀ numbers₀ at₀ k₀ ins outs ok ends numbers at k = 10 - k
 
 count-requires : tie.Need-count-requires Inv-loop μ-loop
 count-requires c κs = search needs
