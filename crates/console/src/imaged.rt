@@ -5,8 +5,8 @@ use crate::held::Held;
 use crate::print;
 use crate::stopped;
 use args::Args;
-use image::Numbers;
 use image::Turn;
+use writer::Numbers;
 
 pub enum ImageCall {
     Write,
@@ -34,7 +34,7 @@ pub fn answer(
 
 fn write(ins: &[u8], a: Args, outs: &mut [u8], text: &mut [u8], at: usize) -> usize {
     let n = args::out_len(a, 9, outs);
-    let r = image::write(
+    let r = writer::write(
         args::bytes(ins, a, 1),
         args::bytes(ins, a, 2),
         numbers(a),

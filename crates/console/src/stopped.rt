@@ -3,7 +3,7 @@
 use header::Reason;
 use header::Value;
 use image::Turn;
-use turns::Stop;
+use tally::Stop;
 
 // Stands where there is no number: none of the six is as large.
 pub const NONE: u64 = 18446744073709551615;

@@ -1,17 +1,16 @@
 -- Laws on a payload that is cut into blocks: the count by cases, the parts that join to the payload, and what the writer asks of
 -- each. Assumes nothing.
-use Prim.Native.Nat.{ℕ, zero, suc, _+_, _-_, _*_, _/_, _≤_, _<_, min, max}
+use Prim.Native.Nat.{ℕ, zero, suc, _+_, _-_, _*_, _/_, _≤_, _<_, min}
 use mathlib.Core.Path.{_≡_, refl, ap, sym, _∙_}
-use mathlib.Core.Bool.{Bool, true, false, _&&_, _||_}
-use mathlib.Core.List.{List, [], _++_}
+use mathlib.Core.Bool.{Bool, true, false, _||_}
+use mathlib.Core.List.{List, []}
 use native.Mathlib.Omega.{arith}
-use native.Mathlib.Nat.{max-eq-left, max-eq-right}
+use native.Mathlib.Nat.{max-eq-right}
 use lib.ListN.{length, take, drop, length-take, length-drop, drop-of-length-le}
 use lib.Seq.{take-all, take-nil, drop-drop, take-add}
-use lib.Dec.{eqb, ltb, leb}
+use lib.Dec.{eqb}
 use borrow.Author.Tests.{lt-ltb, le-ltb, le-leb, eq-eqb, eqb-true, eqb-false}
-use Rattle.octets.specs.Octets.{choose}
-use Rattle.header.specs.Rules.{countFits, lengthFits}
+use Rattle.limits.specs.Fits.{countFits, lengthFits}
 use Rattle.cut.specs.declared.Counted.the-variants.{Blocks, TooLong}
 use Rattle.cut.specs.Cut.{most, blocksOf, countOf, partOf, joined}
 

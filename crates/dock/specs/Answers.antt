@@ -1,30 +1,23 @@
 -- The answers as C has them: numbers in place of enums. Assumes nothing: these are definitions.
 use Prim.Native.Nat.{ℕ}
 use mathlib.Core.List.{List}
-use lib.ListN.{getD}
 use Rattle.schedule.specs.Schedule.{keyNumber}
 use Rattle.schedule.specs.declared.Expanded.{Expanded}
 use Rattle.cipher.specs.declared.Ciphered.{Ciphered}
-use Rattle.modes.specs.Calls.{modeNumber, modeAnswer, modeOutput, answerWith}
+use Rattle.mode_answers.specs.Answers.{modeNumber}
+use Rattle.modes.specs.Calls.{modeAnswer, modeOutput, answerWith}
 use Rattle.modes.specs.declared.Applied.{Applied}
 use Rattle.sp800_38a.specs.declared.Operation.{Operation}
 use Rattle.cmac.specs.declared.Checked.{Checked}
 use Rattle.cmac.specs.declared.Started.{Started}
-use Rattle.header.specs.Rules.{reasonNumber, reasonValue}
-use Rattle.turns.specs.Turn.{stopNumber}
-use Rattle.image.specs.declared.Numbers.{Numbers}
+use Rattle.writer.specs.declared.Numbers.{Numbers}
 use Rattle.image.specs.declared.ReadStarted.{ReadStarted}
-use Rattle.turns.specs.declared.Stop.{Stop}
-use Rattle.turns.specs.declared.Stop.the-variants.{End, Asked, Lent, Room, At}
-use Rattle.image.specs.declared.Turn.{Turn}
 use Rattle.dock.specs.declared.ScheduleAnswer.{ScheduleAnswer}
 use Rattle.dock.specs.declared.BlockAnswer.{BlockAnswer}
 use Rattle.dock.specs.declared.ChainAnswer.{ChainAnswer}
 use Rattle.dock.specs.declared.CheckAnswer.{CheckAnswer}
 use Rattle.dock.specs.declared.StartAnswer.{StartAnswer}
 use Rattle.dock.specs.declared.ReadStartAnswer.{ReadStartAnswer}
-use Rattle.dock.specs.declared.TurnAnswer.{TurnAnswer}
-use Rattle.dock.specs.declared.numbers.Told.{Told}
 
 -- ---- key schedule, block, modes, check
 
@@ -59,34 +52,7 @@ closeAnswer c = record { number = 0; check = c }
 abbrev pub numbers : (number count release edition : ℕ) → Numbers
 numbers number count release edition = record { number = number; count = count; release = release; edition = edition }
 
--- ---- a reader, and a turn
+-- ---- a reader
 
 abbrev pub readStartAnswer : ReadStarted → ReadStartAnswer
 readStartAnswer s = record { number = keyNumber (s .answer); reader = s .reader }
-
--- the value that a refusal holds, 0 where it holds none
-abbrev pub valueHeld : List ℕ → ℕ
-valueHeld v = getD v 0 0
-
--- a turn that no block stopped, by its number
-abbrev pub noBlock : ℕ → Told
-noBlock n = record { number = n; reason = 0; value = 0; place = 0 }
-
--- a refusal of the whole turn has the number; that of a block is the reason
-abbrev pub toldOf : Stop → Told
-toldOf End = noBlock (stopNumber End)
-toldOf Asked = noBlock (stopNumber Asked)
-toldOf Lent = noBlock (stopNumber Lent)
-toldOf Room = noBlock (stopNumber Room)
-toldOf (At place reason) = record { number = 0; reason = reasonNumber reason; value = valueHeld (reasonValue reason); place = place }
-
-abbrev pub turnAnswer : Turn → TurnAnswer
-turnAnswer t = record {
-  number = toldOf (t .stop) .number;
-  reason = toldOf (t .stop) .reason;
-  value = toldOf (t .stop) .value;
-  place = toldOf (t .stop) .place;
-  accepted = t .accepted;
-  bytes = t .bytes;
-  reader = t .reader;
-}

@@ -1,26 +1,27 @@
 // What C links: the calls on slices and numbers, with the refusals' numbers in place of enums, and structs by value but for the
 // record of a running check, which is lent to be fed.
-mod numbers;
-
-use crate::numbers::how_stopped;
 use cipher::Ciphered;
 use cmac::Record;
-use image::Numbers;
 use image::Reader;
-use image::Turn;
 use schedule::KeySchedule;
 use sp800_38a::Operation;
+use turn_answers::TurnAnswer;
+use turn_answers::turn_answer;
+use writer::Numbers;
 ghost use mathlib.Core.Path.{_≡_};
 ghost use Rattle.field.specs.Field.{_•_};
 ghost use Rattle.sbox.specs.Sbox.{sBox};
 ghost use Rattle.schedule.specs.Schedule.{scheduleOf};
 ghost use Rattle.cipher.specs.Calls.{encryptUnder, decryptUnder};
 ghost use Rattle.sp800_38a.specs.declared.Operation.the-variants.{EcbEncrypt, EcbDecrypt, CbcEncrypt, CbcDecrypt, CfbEncrypt, CfbDecrypt, Ofb};
-ghost use Rattle.modes.specs.Calls.{modeNumber, modeAnswer};
+ghost use Rattle.mode_answers.specs.Answers.{modeNumber};
+ghost use Rattle.modes.specs.Calls.{modeAnswer};
 ghost use Rattle.cmac.specs.Calls.{checkOf, startOf, fedWith, closeOf};
+ghost use Rattle.writer.specs.Calls as writer;
 ghost use Rattle.image.specs.Calls as image;
 ghost use Rattle.wrap.specs.Calls.{wrapNumber, wrapAnswer, wrapOutput, unwrapAnswer, unwrapOutput};
-ghost use Rattle.dock.specs.Answers.{scheduleAnswer, blockAnswer, chainAnswer, modeApplied, afterMode, checkAnswer, startAnswer, closeAnswer, readStartAnswer, turnAnswer, numbers};
+ghost use Rattle.dock.specs.Answers.{scheduleAnswer, blockAnswer, chainAnswer, modeApplied, afterMode, checkAnswer, startAnswer, closeAnswer, readStartAnswer, numbers};
+ghost use Rattle.turn_answers.specs.Answers.{turnAnswer};
 
 // Sixteen bytes by value: C passes no array so.
 #[repr(C)]
@@ -64,19 +65,6 @@ pub struct StartAnswer {
 #[repr(C)]
 pub struct ReadStartAnswer {
     pub number: u32,
-    pub reader: Reader,
-}
-
-// What a turn did. `number` is that of a refusal of the whole turn; a block that stopped it has its place and reason, and the
-// value that the reason holds. There are zeros where there is none.
-#[repr(C)]
-pub struct TurnAnswer {
-    pub number: u32,
-    pub reason: u32,
-    pub value: u32,
-    pub place: usize,
-    pub accepted: usize,
-    pub bytes: usize,
     pub reader: Reader,
 }
 
@@ -249,8 +237,8 @@ pub extern "C" fn dock_write(
     payload: &[u8],
     output: &mut [u8],
 ) -> u32
-    ensures answer { λ r. ⌜ r ≡ image.writeNumber (image.writeAnswer (now (ekey .entry)) (now (ckey .entry)) (numbers number count release edition) (now (payload .entry)) (now (output .entry))) ⌝ }
-    ensures written { λ _. ⌜ now (output .exit) ≡ image.writeOutput (image.writeAnswer (now (ekey .entry)) (now (ckey .entry)) (numbers number count release edition) (now (payload .entry)) (now (output .entry))) (now (ekey .entry)) (now (ckey .entry)) (numbers number count release edition) (previous .bytes) (now (payload .entry)) (now (output .entry)) ⌝ }
+    ensures answer { λ r. ⌜ r ≡ writer.writeNumber (writer.writeAnswer (now (ekey .entry)) (now (ckey .entry)) (numbers number count release edition) (now (payload .entry)) (now (output .entry))) ⌝ }
+    ensures written { λ _. ⌜ now (output .exit) ≡ writer.writeOutput (writer.writeAnswer (now (ekey .entry)) (now (ckey .entry)) (numbers number count release edition) (now (payload .entry)) (now (output .entry))) (now (ekey .entry)) (now (ckey .entry)) (numbers number count release edition) (previous .bytes) (now (payload .entry)) (now (output .entry)) ⌝ }
 {
     let numbers = Numbers {
         number,
@@ -259,7 +247,7 @@ pub extern "C" fn dock_write(
         edition,
     };
     let bytes = previous.bytes;
-    let answer = image::write(ekey, ckey, numbers, bytes, payload, output);
+    let answer = writer::write(ekey, ckey, numbers, bytes, payload, output);
     answer.number()
 }
 
@@ -352,22 +340,5 @@ fn chained(
     ChainAnswer {
         number: answer.number(),
         next,
-    }
-}
-
-fn turn_answer(t: Turn) -> TurnAnswer
-    ensures { λ r. ⌜ r ≡ turnAnswer t ⌝ }
-{
-    let stop = t.stop;
-    let reader = t.reader;
-    let told = how_stopped(stop);
-    TurnAnswer {
-        number: told.number,
-        reason: told.reason,
-        value: told.value,
-        place: told.place,
-        accepted: t.accepted,
-        bytes: t.bytes,
-        reader,
     }
 }

@@ -8,9 +8,9 @@ use native.Mathlib.Omega.{arith}
 use lib.Dec.{eqb}
 use lib.ListN.{length, take}
 use lib.Seq.{take-all}
-use Rattle.octets.specs.Octets.{choose, Bytes, Octets}
-use Rattle.header.specs.Marks.{markOf, tailSize}
-use Rattle.format.specs.Edition.{Edition, one, two, tailOf, edition}
+use Rattle.octets.specs.Octets.{choose, Bytes}
+use Rattle.limits.specs.Marks.{markOf, tailSize}
+use Rattle.format.specs.Edition.{one, two, tailOf, edition}
 
 pub edition-one : edition 1 ≡ one
 unfolding markOf tailOf

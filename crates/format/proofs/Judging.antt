@@ -13,8 +13,9 @@ use Rattle.blocks.specs.Blocks.{blockAt}
 use Rattle.blocks.proofs.Laws.{block-at}
 use Rattle.schedule.specs.Schedule.{roundCount}
 use Rattle.layout.specs.Layout.{headOf}
-use Rattle.header.specs.Marks.{selected, markFor}
-use Rattle.header.specs.Rules.{firstOf, closed, countFits, headTests}
+use Rattle.limits.specs.Fits.{countFits}
+use Rattle.limits.specs.Marks.{selected}
+use Rattle.header.specs.Rules.{firstOf, closed, markFor, headTests}
 use Rattle.layout.specs.declared.Head.{Head}
 use Rattle.header.specs.declared.Reason.{Reason}
 use Rattle.header.specs.declared.Reason.the-variants.{AfterLast, CheckWrong, FillNotZero}

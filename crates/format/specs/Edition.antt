@@ -4,7 +4,7 @@ use mathlib.Core.List.{List, []}
 use lib.Dec.{eqb}
 use lib.ListN.{replicate}
 use Rattle.octets.specs.Octets.{choose}
-use Rattle.header.specs.Marks.{markOf}
+use Rattle.limits.specs.Marks.{markOf}
 
 -- the number in bytes 14 and 15 of each block, and what the check covers behind bytes 0 to 495: a function of the check of the block before
 pub record Edition : Type 0 where

@@ -5,8 +5,8 @@ use mathlib.Core.List.{List, [], _∷_, _++_}
 use lib.ListN.{drop}
 use Rattle.octets.specs.Blocks.{BlockCipher}
 use Rattle.layout.specs.Layout.{checkAt, headOf}
-use Rattle.header.specs.Marks.{selected, markFor}
-use Rattle.header.specs.Rules.{firstOf, closed, headTests}
+use Rattle.limits.specs.Marks.{selected}
+use Rattle.header.specs.Rules.{firstOf, closed, markFor, headTests}
 use Rattle.layout.specs.declared.Head.{Head}
 use Rattle.header.specs.declared.Progress.{Progress}
 use Rattle.header.specs.declared.Reason.{Reason}

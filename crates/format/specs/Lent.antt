@@ -8,7 +8,8 @@ use lib.ListN.{length}
 use Rattle.octets.specs.Octets.{choose, over}
 use Rattle.octets.specs.Blocks.{BlockCipher}
 use Rattle.blocks.specs.Blocks.{blockAt}
-use Rattle.schedule.specs.Schedule.{roundCount}
+use Rattle.schedule.specs.Schedule.{roundCount, keyNumber}
+use Rattle.schedule.specs.declared.Expanded.{Expanded}
 use Rattle.lookups.specs.Lookups.{tableCipher, oneTable}
 use Rattle.sp800_38b.specs.Cmac.{cmacBy}
 use Rattle.layout.specs.Layout.{bodySize, blockSize, headOf}
@@ -22,6 +23,10 @@ use Rattle.format.specs.declared.Judged.{Judged}
 -- keys can have given both schedules
 abbrev pub usable : Rounds → Bool
 usable n = roundCount (n .enc) && roundCount (n .chk)
+
+-- both keys are taken, or the call is refused by 1
+abbrev pub bothTaken : (ekey ckey : Expanded) → Bool
+bothTaken ekey ckey = eqb (keyNumber (ekey .answer)) 0 && eqb (keyNumber (ckey .answer)) 0
 
 -- the check over a lent table, schedule and subkeys
 abbrev pub lentMac : (forth cwords : List ℕ) → (rounds : ℕ) → (key1 key2 : List ℕ) → Mac

@@ -5,7 +5,8 @@ use Prim.Native.Nat.{ℕ, _<_}
 use native.Mathlib.Omega.{arith}
 use borrow.Author.Tests.{ltb-true, ltb-false, leb-false, eqb-true, not-false}
 use lib.Dec.{eqb, ltb, leb}
-use Rattle.header.specs.Rules.{closed, countFits}
+use Rattle.limits.specs.Fits.{countFits}
+use Rattle.header.specs.Rules.{closed}
 use Rattle.layout.specs.declared.Head.{Head}
 use Rattle.header.specs.declared.Progress.{Progress}
 

@@ -1,10 +1,11 @@
 -- What a header must say, and the order in which it is asked (docs/REFUSALS.md). Assumes nothing: these are definitions.
-use Prim.Native.Nat.{ℕ, _+_}
-use mathlib.Core.Bool.{Bool, _&&_, _||_, not}
+use Prim.Native.Nat.{ℕ}
+use mathlib.Core.Bool.{Bool, _&&_, not}
 use mathlib.Core.List.{List, [], _∷_}
 use lib.Dec.{eqb, ltb, leb}
 use Rattle.octets.specs.Octets.{choose}
-use Rattle.layout.specs.Layout.{bodySize}
+use Rattle.limits.specs.Fits.{countFits, lengthFits}
+use Rattle.limits.specs.Marks.{selected, markOf}
 use Rattle.layout.specs.declared.Head.{Head}
 use Rattle.header.specs.declared.Progress.{Progress}
 use Rattle.header.specs.declared.Reason.{Reason}
@@ -61,14 +62,9 @@ done s = ltb 0 (s .next) && eqb (s .next) (s .count)
 unfoldable pub closed : Progress → Bool
 closed s = ltb 0 (s .next) && leb (s .count) (s .next)
 
--- a count is 1 to 65,535
-unfoldable pub countFits : ℕ → Bool
-countFits n = ltb 0 n && leb n 65535
-
--- the last block holds 1 to 480 bytes, or 0 to 480 when it is the only one; every other block holds 480
-unfoldable pub lengthFits : (number count len : ℕ) → Bool
-lengthFits number count len =
-    choose (eqb (number + 1) count) (leb len bodySize && (ltb 0 len || eqb count 1)) (eqb len bodySize)
+-- the mark that a reader of both editions asks for: of the edition that it has fixed, and before that of the one selected
+unfoldable pub markFor : Progress → ℕ → ℕ
+markFor s v = markOf (choose (ltb 0 (s .next)) (s .edition) (selected v))
 
 -- 7, 8, 9, 10, 12, 13 of a block's own header, in that order; an edition's mark is what its reserved number is to be, and from the first
 -- accepted block on, count and release are the reader's

@@ -1,13 +1,13 @@
 // The tests that a reader makes of a block's header, how far it has come, and why it refuses.
 use layout::Head;
+use limits::count_fits;
+use limits::length_fits;
+use limits::mark_of;
+use limits::selected;
 ghost use mathlib.Core.Path.{_≡_};
-ghost use mathlib.Core.Bool.{_&&_, _||_, not};
-ghost use Prim.Native.Nat.{_+_, _/_};
-ghost use lib.Dec.{eqb, ltb, leb};
-ghost use Rattle.layout.specs.Layout.{bodySize};
-ghost use Rattle.header.specs.Marks.{isEdition, markOf, tailSize, markFor};
-ghost use Rattle.header.specs.Marks as spec;
-ghost use Rattle.header.specs.Rules.{reasonNumber, reasonValue, valueOf, firstOf, done, closed, countFits, lengthFits, headTests};
+ghost use mathlib.Core.Bool.{_&&_, not};
+ghost use lib.Dec.{eqb, ltb};
+ghost use Rattle.header.specs.Rules.{reasonNumber, reasonValue, valueOf, firstOf, done, closed, markFor, headTests};
 
 // How far a reader has come: the number that it expects, and, where that is not 0, the count, release and edition that its first
 // accepted block fixed; and the check of the block that it accepted last, zeros before the first.
@@ -99,59 +99,6 @@ pub fn closed(progress: Progress) -> bool
     }
 }
 
-pub fn count_fits(count: u32) -> bool
-    ensures { λ r. ⌜ r ≡ countFits count ⌝ }
-{
-    if count == 0 { false } else { count <= 65535 }
-}
-
-// Whether a block of this number, of so many, may hold so many bytes.
-pub fn length_fits(number: u32, count: u32, len: usize) -> bool
-    ensures { λ r. ⌜ r ≡ lengthFits number count len ⌝ }
-{
-    if is_last(number, count) {
-        last_fits(count, len)
-    } else {
-        len == 480
-    }
-}
-
-pub fn is_edition(edition: u32) -> bool
-    ensures { λ r. ⌜ r ≡ isEdition edition ⌝ }
-{
-    if edition == 1 {
-        return true;
-    }
-    edition == 2
-}
-
-// The edition that a value in bytes 14 and 15 selects.
-pub fn selected(reserved: u16) -> u32
-    ensures { λ r. ⌜ r ≡ spec.selected reserved ⌝ }
-{
-    if reserved == 2 { 2 } else { 1 }
-}
-
-// What marks a block of an edition; where there is none, a value that two bytes do not hold.
-pub fn mark_of(edition: u32) -> u32
-    ensures { λ r. ⌜ r ≡ markOf edition ⌝ }
-{
-    if edition == 1 {
-        return 0;
-    }
-    if edition == 2 {
-        return 2;
-    }
-    65536
-}
-
-// How many bytes of the check of the block before the check of a block covers besides.
-pub fn tail_size(edition: u32) -> usize
-    ensures { λ r. ⌜ r ≡ tailSize edition ⌝ }
-{
-    if edition == 2 { 16 } else { 0 }
-}
-
 // The mark that a reader of both editions asks for: of the edition that it has fixed, and before that of the one selected.
 pub fn mark_for(progress: Progress, reserved: u16) -> u32
     ensures { λ r. ⌜ r ≡ markFor progress reserved ⌝ }
@@ -193,29 +140,6 @@ pub fn judge_head(progress: Progress, head: Head, mark: u32) -> Verdict
         return Verdict::Refused(Reason::Reserved(reserved));
     }
     Verdict::Accepted
-}
-
-// Asked so that no sum can wrap.
-fn is_last(number: u32, count: u32) -> bool
-    ensures { λ r. ⌜ r ≡ eqb (number + 1) count ⌝ }
-{
-    if number < count {
-        count - number == 1
-    } else {
-        false
-    }
-}
-
-fn last_fits(count: u32, len: usize) -> bool
-    ensures { λ r. ⌜ r ≡ leb len bodySize && (ltb 0 len || eqb count 1) ⌝ }
-{
-    if 480 < len {
-        return false;
-    }
-    if len == 0 {
-        return count == 1;
-    }
-    true
 }
 
 // Before the first block has been accepted nothing is fixed, and no value differs.

@@ -15,17 +15,18 @@ use Rattle.lookups.specs.Lookups.{tableCipher, inverseWords}
 use Rattle.tables.specs.Tables.{forwardTable, inverseTable}
 use Rattle.lookups.proofs.Lawful.{lent-agrees}
 use Rattle.fips197.proofs.Aes.{key-lawful}
-use Rattle.modes.specs.Calls.{leftOver, judged, modeAnswer, modeOutput, modeNext, answerWith}
 use Rattle.sp800_38a.specs.Pieces.{pieceCount}
 use Rattle.sp800_38a.specs.Modes.{ivLength}
 use Rattle.pieces.specs.Runs.{runOver}
 use Rattle.pieces.proofs.Agree.{through-mode, iv-chain, iv-same, handed-iv}
 use Rattle.sp800_38a.specs.declared.Operation.{Operation}
+use Rattle.mode_answers.specs.Answers.{modeNumber, leftOver, judged}
+use Rattle.mode_answers.specs.declared.ModeAnswer.{ModeAnswer}
+use Rattle.mode_answers.specs.declared.ModeAnswer.the-variants.{Done, BadKey, BadIv, NotPieces, OutputShort}
+use Rattle.mode_answers.proofs.ModeAnswer.{the-type}
+use Rattle.mode_answers.proofs.Answers.{met, left-none}
+use Rattle.modes.specs.Calls.{modeAnswer, modeOutput, modeNext, answerWith}
 use Rattle.modes.specs.declared.Applied.{Applied}
-use Rattle.modes.specs.declared.ModeAnswer.{ModeAnswer}
-use Rattle.modes.specs.declared.ModeAnswer.the-variants.{Done, BadKey, BadIv, NotPieces, OutputShort}
-use Rattle.modes.proofs.ModeAnswer.{the-type}
-use Rattle.modes.proofs.Answers.{met, left-none}
 
 -- an answer that is not the first case leaves the output as it was
 pub refused-keeps : (a : ModeAnswer) (o : Operation) (key iv inp out : List ℕ)
@@ -43,6 +44,21 @@ refused-zeros BadKey o key iv inp h = refl
 refused-zeros BadIv o key iv inp h = refl
 refused-zeros NotPieces o key iv inp h = refl
 refused-zeros OutputShort o key iv inp h = refl
+
+-- the same of an answer by its number
+pub kept : (a : ModeAnswer) (o : Operation) (key iv inp out : List ℕ) → (modeNumber a ≡ 0 → ⊥) → modeOutput a o key iv inp out ≡ out
+kept Done o key iv inp out h = absurd (h refl)
+kept BadKey o key iv inp out h = refl
+kept BadIv o key iv inp out h = refl
+kept NotPieces o key iv inp out h = refl
+kept OutputShort o key iv inp out h = refl
+
+pub zeros : (a : ModeAnswer) (o : Operation) (key iv inp : List ℕ) → (modeNumber a ≡ 0 → ⊥) → modeNext a o key iv inp ≡ replicate 16 0
+zeros Done o key iv inp h = absurd (h refl)
+zeros BadKey o key iv inp h = refl
+zeros BadIv o key iv inp h = refl
+zeros NotPieces o key iv inp h = refl
+zeros OutputShort o key iv inp h = refl
 
 -- an answer and a chaining value, each as told
 pub same-applied : (a b : ModeAnswer) (x : List ℕ) (o : Operation) (key iv inp : List ℕ) → a ≡ b → x ≡ modeNext a o key iv inp

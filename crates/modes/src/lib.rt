@@ -1,42 +1,18 @@
 // The modes of SP 800-38A under a key: ECB, CBC and CFB with 16-byte segments each way, on whole pieces of 16 bytes, and OFB on any length.
 use blocks::load;
 use cipher::inverse_words;
-use pieces::any_length;
-use schedule::KeyAnswer;
+use mode_answers::ModeAnswer;
+use mode_answers::judge;
 use schedule::KeySchedule;
 use sp800_38a::Operation;
 use tables::forward_table;
 use tables::inverse_table;
 ghost use mathlib.Core.Path.{_≡_};
-ghost use Rattle.schedule.specs.Schedule.{keyNumber};
 ghost use Rattle.lookups.specs.Lookups.{tableCipher, inverseWords};
 ghost use Rattle.tables.specs.Tables.{forwardTable, inverseTable};
-ghost use Rattle.sp800_38a.specs.Modes.{ivLength};
 ghost use Rattle.sp800_38a.specs.Modes as standard;
 ghost use Rattle.pieces.specs.Runs.{runOver};
-ghost use Rattle.modes.specs.Calls.{modeNumber, leftOver, judged, modeAnswer, modeOutput, answerWith};
-
-pub enum ModeAnswer {
-    Done,
-    BadKey,
-    BadIv,
-    NotPieces,
-    OutputShort,
-}
-
-impl ModeAnswer {
-    pub fn number(self) -> u32
-        ensures { λ r. ⌜ r ≡ modeNumber self ⌝ }
-    {
-        match self {
-            ModeAnswer::Done => 0,
-            ModeAnswer::BadKey => 1,
-            ModeAnswer::BadIv => 2,
-            ModeAnswer::NotPieces => 3,
-            ModeAnswer::OutputShort => 4,
-        }
-    }
-}
+ghost use Rattle.modes.specs.Calls.{modeAnswer, modeOutput, answerWith};
 
 // An answer, and the chaining value handed on: the last ciphertext block, in OFB the last cipher output, for an empty input the IV.
 // As the IV of another call it lets more bytes go on from here. It is zeros in ECB, which chains nothing, and in a refused call.
@@ -106,50 +82,5 @@ fn inverts(operation: Operation) -> bool
         Operation::CfbEncrypt => false,
         Operation::CfbDecrypt => false,
         Operation::Ofb => false,
-    }
-}
-
-// The answer, from that for the key and the lengths of the rest.
-fn judge(key: KeyAnswer, operation: Operation, iv: usize, input: usize, output: usize) -> ModeAnswer
-    ensures { λ r. ⌜ r ≡ judged (keyNumber key) (ivLength 16 operation) iv (leftOver operation input) input output ⌝ }
-{
-    let KeyAnswer::Taken = key else {
-        return ModeAnswer::BadKey;
-    };
-    let wanted = wanted_iv(operation);
-    let left = left_over(operation, input);
-    if iv != wanted {
-        return ModeAnswer::BadIv;
-    }
-    if left != 0 {
-        return ModeAnswer::NotPieces;
-    }
-    if output < input {
-        return ModeAnswer::OutputShort;
-    }
-    ModeAnswer::Done
-}
-
-// The bytes past whole pieces, which OFB alone takes.
-fn left_over(operation: Operation, input: usize) -> usize
-    ensures { λ r. ⌜ r ≡ leftOver operation input ⌝ }
-{
-    if any_length(operation) {
-        return 0;
-    }
-    input % 16
-}
-
-fn wanted_iv(operation: Operation) -> usize
-    ensures { λ r. ⌜ r ≡ ivLength 16 operation ⌝ }
-{
-    match operation {
-        Operation::EcbEncrypt => 0,
-        Operation::EcbDecrypt => 0,
-        Operation::CbcEncrypt => 16,
-        Operation::CbcDecrypt => 16,
-        Operation::CfbEncrypt => 16,
-        Operation::CfbDecrypt => 16,
-        Operation::Ofb => 16,
     }
 }

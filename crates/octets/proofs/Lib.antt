@@ -3,3 +3,4 @@ pub mod Tests
 pub mod Fill
 pub mod Words
 pub mod Blocks
+pub mod Arms

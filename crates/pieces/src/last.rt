@@ -1,44 +1,16 @@
-// OFB on an input of any length: of the last cipher output a short last piece takes the leading bytes.
-use crate::in_order;
+// The short last piece of OFB, which takes the leading bytes of the last cipher output.
 use rounds::encrypt_block;
-use sp800_38a::Operation;
 ghost use mathlib.Core.Path.{_≡_};
 ghost use Prim.Native.Nat.{_≤_};
-ghost use lib.ListN.{length, take};
+ghost use lib.ListN.{length};
 ghost use Rattle.octets.specs.Blocks.{_⊕_};
 ghost use Rattle.lookups.specs.Lookups.{oneTable};
 ghost use Rattle.sp800_38a.specs.Pieces.{ranThrough};
 ghost use Rattle.sp800_38a.specs.Modes.{machine};
 ghost use Rattle.sp800_38a.specs.declared.Operation.the-variants.{Ofb};
 
-// The pieces of the first bytes of the input, as many as asked.
-pub fn to_the_end(
-    table: &[u32; 256],
-    words: &[u32; 60],
-    rounds: usize,
-    iv: [u8; 16],
-    end: usize,
-    input: &[u8],
-    output: &mut [u8],
-) -> [u8; 16]
-    requires { ⌜ (end ≤ length (now input)) × (end ≤ length (now output)) ⌝ }
-    ensures { λ r. ⌜ (r, now (output .exit)) ≡ ranThrough 16 (machine (oneTable (now (table .entry)) (now (words .entry)) rounds) Ofb) iv (take end (now (input .entry))) (now (output .entry)) ⌝ }
-{
-    let n = end / 16;
-    let chain = in_order(table, words, rounds, Operation::Ofb, iv, n, input, output);
-    let at = n * 16;
-    last_piece(
-        table,
-        words,
-        rounds,
-        chain,
-        &input[at..end],
-        &mut output[at..end],
-    )
-}
-
 // What is left of an input after its whole pieces, into as much of the output; where nothing is left, the cipher makes nothing.
-fn last_piece(
+pub fn last_piece(
     table: &[u32; 256],
     words: &[u32; 60],
     rounds: usize,

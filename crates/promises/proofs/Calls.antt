@@ -10,7 +10,7 @@ use Rattle.blocks.specs.Blocks.{fits, blockPut, copied}
 use Rattle.field.proofs.double.Reads as double
 use Rattle.field.proofs.product.Reads as product
 use Rattle.logarithms.proofs.logarithm.Reads as logarithm
-use Rattle.logarithms.proofs.power.Reads as power
+use Rattle.powers.proofs.power.Reads as power
 use Rattle.sbox.proofs.table.Reads as table
 use Rattle.sbox.proofs.inv_table.Reads as inv-table
 use Rattle.blocks.proofs.load.Reads as load

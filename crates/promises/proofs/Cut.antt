@@ -8,7 +8,7 @@ use native.Mathlib.Omega.{arith}
 use denote.Ref.{now}
 use lib.ListN.{length, take, drop}
 use lib.Seq.{drop-drop}
-use Rattle.header.specs.Rules.{countFits, lengthFits}
+use Rattle.limits.specs.Fits.{countFits, lengthFits}
 use Rattle.octets.specs.Blocks.{BlockCipher}
 use Rattle.format.specs.Edition.{Edition, noCheck}
 use Rattle.format.specs.Sealed.{blockFor}

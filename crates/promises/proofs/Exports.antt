@@ -13,19 +13,22 @@ use contract.Monad.{Fun, fact, factI, fact-use}
 use contract.Lifetimes.{Lfts}
 use denote.Ref.{RefT, now}
 use lib.ListN.{replicate}
-use Rattle.modes.specs.Calls.{modeNumber, modeAnswer}
+use Rattle.mode_answers.specs.Answers.{modeNumber}
+use Rattle.modes.specs.Calls.{modeAnswer}
 use Rattle.modes.specs.declared.Applied.{Applied}
 use Rattle.sp800_38a.specs.declared.Operation.{Operation}
 use Rattle.sp800_38a.specs.declared.Operation.the-variants.{EcbEncrypt, EcbDecrypt, CbcEncrypt, CbcDecrypt, CfbEncrypt, CfbDecrypt, Ofb}
-use Rattle.image.specs.Calls.{startOf, turnOf, writeNumber, completionNumber}
-use Rattle.turns.specs.declared.Stop.{Stop}
-use Rattle.turns.specs.declared.Stop.the-variants.{End, Asked, Lent, Room, At}
+use Rattle.writer.specs.Calls.{writeNumber}
+use Rattle.image.specs.Calls.{startOf, turnOf, completionNumber}
+use Rattle.tally.specs.declared.Stop.{Stop}
+use Rattle.tally.specs.declared.Stop.the-variants.{End, Asked, Lent, Room, At}
 use Rattle.image.specs.declared.Turn.{Turn}
 use Rattle.wrap.specs.Calls.{wrapNumber}
-use Rattle.dock.specs.Answers.{scheduleAnswer, blockAnswer, modeApplied, chainAnswer, afterMode, checkAnswer, startAnswer, closeAnswer, readStartAnswer, toldOf, turnAnswer, numbers}
+use Rattle.dock.specs.Answers.{scheduleAnswer, blockAnswer, modeApplied, chainAnswer, afterMode, checkAnswer, startAnswer, closeAnswer, readStartAnswer, numbers}
+use Rattle.turn_answers.specs.Answers.{toldOf, turnAnswer}
 use Rattle.dock.specs.declared.ChainAnswer.{ChainAnswer}
 use Rattle.dock.specs.declared.ReadStartAnswer.{ReadStartAnswer}
-use Rattle.dock.specs.declared.TurnAnswer.{TurnAnswer}
+use Rattle.turn_answers.specs.declared.TurnAnswer.{TurnAnswer}
 use Rattle.promises.proofs.ImageTerms.{Whole}
 use Rattle.promises.proofs.Image.{turn-refusal-keeps}
 use Rattle.promises.proofs.Modes.{apply-refused-keeps, apply-refused-zeros}
@@ -40,12 +43,13 @@ use Rattle.cmac.proofs.check.Reads as check
 use Rattle.cmac.proofs.start.Reads as start
 use Rattle.cmac.proofs.fed_with.Reads as fed-with
 use Rattle.cmac.proofs.close.Reads as close
-use Rattle.image.proofs.write.Reads as write
+use Rattle.writer.proofs.write.Reads as write
 use Rattle.image.proofs.read_start.Reads as read-start
 use Rattle.image.proofs.read_turn.Reads as read-turn
 use Rattle.image.proofs.read_complete.Reads as read-complete
 use Rattle.wrap.proofs.wrap.Reads as wrap
 use Rattle.wrap.proofs.unwrap.Reads as unwrap
+use Rattle.turn_answers.proofs.turn_answer.Reads as turn-answer
 use Rattle.dock.proofs.dock_product.Reads as dock-product
 use Rattle.dock.proofs.dock_schedule.Reads as dock-schedule
 use Rattle.dock.proofs.dock_encrypt.Reads as dock-encrypt
@@ -322,6 +326,12 @@ dock-read-start-determined κs a r r′ s s′ p q = p ∙ sym q
 
 pub dock-read-start-is-read-start : (κs : _) (a : _) (r : _) (s : _) → dock-read-start.Post κs a r s → AsBelow readStartAnswer (λ x. read-start.Post κs a x s) r
 dock-read-start-is-read-start κs a r s p = (_, refl, p)
+
+pub turn-answer-asks-nothing : (κs : _) (a : _) → turn-answer.Asked κs a
+turn-answer-asks-nothing κs a = tt
+
+pub turn-answer-determined : (κs : _) (a : _) (r r′ : _) (s s′ : _) → turn-answer.Post κs a r s → turn-answer.Post κs a r′ s′ → r ≡ r′
+turn-answer-determined κs a r r′ s s′ p q = p ∙ sym q
 
 pub dock-read-turn-asks-nothing : (κs : _) (a : _) → dock-read-turn.Asked κs a
 dock-read-turn-asks-nothing κs a = tt

@@ -22,8 +22,8 @@ use Rattle.fips197.proofs.Aes.{key-lawful}
 use Rattle.sp800_38a.specs.Pieces.{piece}
 use Rattle.sp800_38b.specs.Cmac.{cmac, SameOutside}
 use Rattle.layout.specs.Layout.{headOf}
-use Rattle.header.specs.Marks.{isEdition, selected, markFor}
-use Rattle.header.specs.Rules.{done, closed, reasonNumber}
+use Rattle.limits.specs.Marks.{isEdition, selected}
+use Rattle.header.specs.Rules.{done, closed, reasonNumber, markFor}
 use Rattle.layout.specs.declared.Head.{Head}
 use Rattle.header.specs.declared.Progress.{Progress}
 use Rattle.header.specs.declared.Reason.{Reason}
@@ -33,21 +33,23 @@ use Rattle.layout.proofs.Laws.{Wide}
 use Rattle.format.specs.Edition.{Edition, one, noCheck, tailOf, edition}
 use Rattle.format.specs.Sealed.{filled, headFor, blockFor, sealed, opened, checks, fillZero}
 use Rattle.format.specs.Judge.{Keys, judge, either, ofEdition, ofBoth, fresh, advanced, taken, BlockReader}
-use Rattle.turns.specs.Turn.{Reading, readBlocks, cut, handled, stopNumber}
-use Rattle.image.specs.Calls.{writeNumber, writeOutput, writeAnswer, lastFor, blockOf, startOf, keysOf, blocksBy, turnOf, completionOf}
-use Rattle.image.specs.declared.WriteAnswer.{WriteAnswer}
-use Rattle.image.specs.declared.WriteAnswer.the-variants.{Written, WriteKey, WriteCount, WriteNumber, WriteLength, WriteEdition, WriteRoom}
-use Rattle.image.specs.declared.Numbers.{Numbers}
+use Rattle.tally.specs.Tally.{stopNumber}
+use Rattle.turns.specs.Turn.{Reading, readBlocks, cut, handled}
+use Rattle.writer.specs.Calls.{writeNumber, writeOutput, writeAnswer, lastFor, blockOf}
+use Rattle.image.specs.Calls.{startOf, keysOf, blocksBy, turnOf, completionOf}
+use Rattle.writer.specs.declared.WriteAnswer.{WriteAnswer}
+use Rattle.writer.specs.declared.WriteAnswer.the-variants.{Written, WriteKey, WriteCount, WriteNumber, WriteLength, WriteEdition, WriteRoom}
+use Rattle.writer.specs.declared.Numbers.{Numbers}
 use Rattle.image.specs.declared.Reader.{Reader}
-use Rattle.turns.specs.declared.Stop.{Stop}
-use Rattle.turns.specs.declared.Stop.the-variants.{End, Asked, Lent, Room, At}
+use Rattle.tally.specs.declared.Stop.{Stop}
+use Rattle.tally.specs.declared.Stop.the-variants.{End, Asked, Lent, Room, At}
 use Rattle.image.specs.declared.Turn.{Turn}
 use Rattle.image.specs.declared.Completion.the-variants.{Complete, NotComplete}
 use Rattle.promises.proofs.ImageTerms.{Proper, SealedOn, Met, Row, Says, unchecked, AllMet, Blocks, payload, plains, parts, AllFilled, Fit, WriteSays, afterWrite, Wrote, blocks, image, inState, readerOf, Waits, moved, FromStart, Sound, readingOf, given, Fair, StartSays, StopSays, CompletionSays, Whole, Lending, AllFair, offered, concat, lendEach, AllFew, readerAfter, AllAccepted, handedOut, counted, andThen}
 use Rattle.promises.proofs.Keys.{KeyTaken}
 use Rattle.promises.proofs.Lemmas.ImageSealed.{sealed-size, sealed-bytes, sealed-checks, sealed-opened, sealed-head, sealed-fill}
-use Rattle.promises.proofs.Lemmas.ImageJudge.{damaged-check, accepted-met, accepted-sealed, verdict-says, no-row-accepted, met-accepted, fits-count, no-keys}
-use Rattle.promises.proofs.Lemmas.ImageTurn.{stops-at, out-at, ran-append, ran-state, advance, accepted-le, end-all, ends-or-at, stop-place, stops-by, ran-met, met-ends, first-fixes, none-accepted, no-keys-none, ran-out, ran-bytes, met-filled, parts-length}
+use Rattle.promises.proofs.Lemmas.ImageJudge.{damaged-check, accepted-met, accepted-sealed, verdict-says, no-row-accepted, met-accepted, no-keys}
+use Rattle.promises.proofs.Lemmas.ImageTurn.{stops-at, out-at, ran-append, ran-state, advance, accepted-le, end-all, ends-or-at, stop-place, ran-met, met-ends, first-fixes, none-accepted, no-keys-none, ran-out, ran-bytes, met-filled, parts-length}
 use Rattle.promises.proofs.Lemmas.ImageSound.{sound-end}
 use Rattle.promises.proofs.Lemmas.ImageWhole.{written-length, Passes, Left, left-fits, checkBefore, written-at, image-blocks, image-parts, image-passes}
 use Rattle.format.proofs.Editions.{tail-bytes}

@@ -11,7 +11,7 @@ use Rattle.octets.specs.Octets.{Bytes, Octets, choose, over}
 use Rattle.schedule.specs.Schedule.{keyNumber}
 use Rattle.lookups.specs.Lookups.{tableCipher}
 use Rattle.sp800_38b.specs.Cmac.{SameOutside}
-use Rattle.header.specs.Marks.{selected}
+use Rattle.limits.specs.Marks.{selected}
 use Rattle.header.specs.Rules.{closed, verdictNumber}
 use Rattle.header.specs.declared.Progress.{Progress}
 use Rattle.header.specs.declared.Reason.the-variants.{AfterLast, CheckWrong}
@@ -25,13 +25,15 @@ use Rattle.format.specs.Lent.{usable, lentMac, lentKeys, isBlock, openedOver, s
 use Rattle.format.proofs.Sizes.{mac-sized}
 use Rattle.format.proofs.Judging.{checks-none, verdict-read, head-read}
 use Rattle.format.proofs.Opening.{fill-of-none}
-use Rattle.image.specs.Calls.{writeNumber, writeOutput, lastFor, keysOf, turnAfter, turnOf, completionNumber}
-use Rattle.turns.specs.Turn.{handled, stopNumber}
-use Rattle.turns.specs.declared.BlocksRead.{BlocksRead}
-use Rattle.image.specs.declared.WriteAnswer.{WriteAnswer}
+use Rattle.writer.specs.Calls.{writeNumber, writeOutput, lastFor}
+use Rattle.image.specs.Calls.{keysOf, turnAfter, turnOf, completionNumber}
+use Rattle.tally.specs.Tally.{stopNumber}
+use Rattle.turns.specs.Turn.{handled}
+use Rattle.tally.specs.declared.BlocksRead.{BlocksRead}
+use Rattle.writer.specs.declared.WriteAnswer.{WriteAnswer}
 use Rattle.image.specs.declared.Reader.{Reader}
 use Rattle.image.specs.declared.ReadStarted.{ReadStarted}
-use Rattle.turns.specs.declared.Stop.the-variants.{End, At}
+use Rattle.tally.specs.declared.Stop.the-variants.{End, At}
 use Rattle.image.specs.declared.Turn.{Turn}
 use Rattle.promises.proofs.Keys.{KeyTaken}
 use Rattle.promises.proofs.ImageTerms.{Row, Says, AllMet, Fit, WriteSays, StartSays, StopSays, CompletionSays, Fair, Wrote, SealedOn, Waits, moved, Whole, given, readerOf}
@@ -41,22 +43,28 @@ use Rattle.layout.proofs.head_of.Reads as head-of
 use Rattle.layout.proofs.head_bytes.Reads as head-bytes
 use Rattle.header.proofs.complete.Reads as complete
 use Rattle.header.proofs.closed.Reads as is-closed
-use Rattle.header.proofs.count_fits.Reads as count-fits
-use Rattle.header.proofs.length_fits.Reads as length-fits
-use Rattle.header.proofs.is_edition.Reads as is-edition
-use Rattle.header.proofs.selected.Reads as is-selected
-use Rattle.header.proofs.mark_of.Reads as mark-of
-use Rattle.header.proofs.tail_size.Reads as tail-size
+use Rattle.limits.proofs.count_fits.Reads as count-fits
+use Rattle.limits.proofs.length_fits.Reads as length-fits
+use Rattle.limits.proofs.is_edition.Reads as is-edition
+use Rattle.limits.proofs.selected.Reads as is-selected
+use Rattle.limits.proofs.mark_of.Reads as mark-of
+use Rattle.limits.proofs.tail_size.Reads as tail-size
 use Rattle.header.proofs.mark_for.Reads as mark-for
 use Rattle.header.proofs.judge_head.Reads as judge-head
-use Rattle.seal.proofs.check_holds.Reads as check-holds
+use Rattle.checking.proofs.check_of.Reads as check-of
+use Rattle.checking.proofs.check_holds.Reads as check-holds
+use Rattle.format.proofs.both_taken.Reads as both-taken
 use Rattle.opening.proofs.fill_is_zero.Reads as fill-is-zero
-use Rattle.seal.proofs.judge.Reads as judge
+use Rattle.judging.proofs.judge.Reads as judge
 use Rattle.opening.proofs.open_block.Reads as open-block
 use Rattle.seal.proofs.seal.Reads as seal
+use Rattle.tally.proofs.blocks_read.Reads as blocks-read
+use Rattle.tally.proofs.may_ask.Reads as may-ask
+use Rattle.tally.proofs.goes_on.Reads as goes-on
+use Rattle.tally.proofs.step.Reads as step
 use Rattle.image.proofs.read_start.Reads as read-start
 use Rattle.image.proofs.read_complete.Reads as read-complete
-use Rattle.image.proofs.write.Reads as write
+use Rattle.writer.proofs.write.Reads as write
 use Rattle.image.proofs.read_turn.Reads as read-turn
 use Rattle.turns.proofs.turn.Reads as turn
 
@@ -140,6 +148,18 @@ judge-head-determined κs a r r′ s s′ p q = p ∙ sym q
 
 -- ---- demand 1 for one block
 
+pub check-of-asks-nothing : (κs : _) (a : _) → check-of.Asked κs a
+check-of-asks-nothing κs a = tt
+
+pub check-of-determined : (κs : _) (a : _) (r r′ : _) (s s′ : _) → check-of.Post κs a r s → check-of.Post κs a r′ s′ → r ≡ r′
+check-of-determined κs a r r′ s s′ p q = p ∙ sym q
+
+pub both-taken-asks-nothing : (κs : _) (a : _) → both-taken.Asked κs a
+both-taken-asks-nothing κs a = tt
+
+pub both-taken-determined : (κs : _) (a : _) (r r′ : _) (s s′ : _) → both-taken.Post κs a r s → both-taken.Post κs a r′ s′ → r ≡ r′
+both-taken-determined κs a r r′ s s′ p q = p ∙ sym q
+
 pub check-holds-asks-nothing : (κs : _) (a : _) → check-holds.Asked κs a
 check-holds-asks-nothing κs a = tt
 
@@ -214,6 +234,32 @@ module _ (κs : _) (a : _) (r : _) (s : _) (p : judge.Post κs a r s) where
 
   pub judge-reads-the-header : length (now (a .1 .1 .1 .1 .1 .1 .1 .1 .1 .0)) ≡ 512 → r .head ≡ headOf (now (a .1 .1 .1 .1 .1 .1 .1 .1 .1 .0))
   judge-reads-the-header e = head-read lent (a .1 .1 .1 .1 .1 .1 .1 .1 .0) (now (a .1 .1 .1 .1 .1 .1 .1 .1 .1 .0)) r p e
+
+-- ---- demand 1 for what a turn has done
+
+pub blocks-read-asks-nothing : (κs : _) (a : _) → blocks-read.Asked κs a
+blocks-read-asks-nothing κs a = tt
+
+pub blocks-read-determined : (κs : _) (a : _) (r r′ : _) (s s′ : _) → blocks-read.Post κs a r s → blocks-read.Post κs a r′ s′ → r ≡ r′
+blocks-read-determined κs a r r′ s s′ p q = p ∙ sym q
+
+pub may-ask-asks-nothing : (κs : _) (a : _) → may-ask.Asked κs a
+may-ask-asks-nothing κs a = tt
+
+pub may-ask-determined : (κs : _) (a : _) (r r′ : _) (s s′ : _) → may-ask.Post κs a r s → may-ask.Post κs a r′ s′ → r ≡ r′
+may-ask-determined κs a r r′ s s′ p q = p ∙ sym q
+
+pub goes-on-asks-nothing : (κs : _) (a : _) → goes-on.Asked κs a
+goes-on-asks-nothing κs a = tt
+
+pub goes-on-determined : (κs : _) (a : _) (r r′ : _) (s s′ : _) → goes-on.Post κs a r s → goes-on.Post κs a r′ s′ → r ≡ r′
+goes-on-determined κs a r r′ s s′ p q = p ∙ sym q
+
+pub step-asks-nothing : (κs : _) (a : _) → step.Asked κs a
+step-asks-nothing κs a = tt
+
+pub step-determined : (κs : _) (a : _) (r r′ : _) (s s′ : _) → step.Post κs a r s → step.Post κs a r′ s′ → r ≡ r′
+step-determined κs a r r′ s s′ p q = p ∙ sym q
 
 -- ---- demand 1 for images
 

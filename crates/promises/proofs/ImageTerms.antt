@@ -9,8 +9,9 @@ use Rattle.octets.specs.Blocks.{BlockCipher}
 use Rattle.schedule.specs.declared.KeyAnswer.{KeyAnswer}
 use Rattle.schedule.specs.declared.KeyAnswer.the-variants.{Taken, KeyLength}
 use Rattle.layout.specs.Layout.{headOf}
-use Rattle.header.specs.Marks.{isEdition}
-use Rattle.header.specs.Rules.{closed, lengthFits}
+use Rattle.limits.specs.Fits.{lengthFits}
+use Rattle.limits.specs.Marks.{isEdition}
+use Rattle.header.specs.Rules.{closed}
 use Rattle.layout.specs.declared.Head.{Head}
 use Rattle.header.specs.declared.Progress.{Progress}
 use Rattle.header.specs.declared.Reason.{Reason}
@@ -21,13 +22,14 @@ use Rattle.format.specs.Edition.{Edition, noCheck, tailOf}
 use Rattle.format.specs.Sealed.{filled, blockFor, opened, checks, fillZero}
 use Rattle.format.specs.Judge.{Keys, Rule, either, taken}
 use Rattle.turns.specs.Turn.{Reading, cut, handled, readingBy}
-use Rattle.image.specs.Calls.{writeAnswer, writeOutput, lastFor, startOf, keysOf, turnOf}
-use Rattle.image.specs.declared.WriteAnswer.{WriteAnswer}
-use Rattle.image.specs.declared.WriteAnswer.the-variants.{Written, WriteKey, WriteCount, WriteNumber, WriteLength, WriteEdition, WriteRoom}
-use Rattle.image.specs.declared.Numbers.{Numbers}
+use Rattle.writer.specs.Calls.{writeAnswer, writeOutput, lastFor}
+use Rattle.image.specs.Calls.{startOf, keysOf, turnOf}
+use Rattle.writer.specs.declared.WriteAnswer.{WriteAnswer}
+use Rattle.writer.specs.declared.WriteAnswer.the-variants.{Written, WriteKey, WriteCount, WriteNumber, WriteLength, WriteEdition, WriteRoom}
+use Rattle.writer.specs.declared.Numbers.{Numbers}
 use Rattle.image.specs.declared.Reader.{Reader}
-use Rattle.turns.specs.declared.Stop.{Stop}
-use Rattle.turns.specs.declared.Stop.the-variants.{End, Asked, Lent, Room, At}
+use Rattle.tally.specs.declared.Stop.{Stop}
+use Rattle.tally.specs.declared.Stop.the-variants.{End, Asked, Lent, Room, At}
 use Rattle.image.specs.declared.Turn.{Turn}
 use Rattle.image.specs.declared.Completion.{Completion}
 use Rattle.image.specs.declared.Completion.the-variants.{Complete, NotComplete}

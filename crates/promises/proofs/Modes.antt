@@ -2,7 +2,7 @@
 use mathlib.Core.Path.{_≡_, refl, sym, ap, ap₂, subst, _∙_}
 use mathlib.Core.Bool.{Bool, true, false, true≢false}
 use mathlib.Core.List.{List, _++_}
-use Prim.Native.Nat.{ℕ, _+_, _*_, _/_, _%_, _≤_, _<_}
+use Prim.Native.Nat.{ℕ, _+_, _*_, _/_, _%_, _≤_, _<_, min}
 use native.Mathlib.Nat.{zero-lt-suc}
 use native.Mathlib.Omega.{arith}
 use borrow.Author.Tests.{eqb-true, eqb-false, ltb-true, ltb-false}
@@ -31,15 +31,20 @@ use Rattle.sp800_38a.proofs.Equations.{equation, handed-on}
 use Rattle.sp800_38a.proofs.HandedOn as cuts
 use Rattle.pieces.specs.Runs.{reach, runOver}
 use Rattle.pieces.proofs.Agree.{iv-is-chain, through-forward, through-backward, through-mode}
-use Rattle.modes.specs.Calls.{modeNumber, leftOver, judged, modeAnswer, modeOutput, modeNext}
+use Rattle.mode_answers.specs.Answers.{modeNumber, leftOver, judged}
+use Rattle.mode_answers.specs.declared.ModeAnswer.{ModeAnswer}
+use Rattle.mode_answers.specs.declared.ModeAnswer.the-variants.{Done, BadKey, BadIv, NotPieces, OutputShort}
+use Rattle.mode_answers.proofs.Answers.{left-none, none-left}
+use Rattle.modes.specs.Calls.{modeAnswer, modeOutput, modeNext}
 use Rattle.modes.specs.declared.Applied.{Applied}
-use Rattle.modes.specs.declared.ModeAnswer.{ModeAnswer}
-use Rattle.modes.specs.declared.ModeAnswer.the-variants.{Done, BadKey, BadIv, NotPieces, OutputShort}
-use Rattle.modes.proofs.Answers.{kept, zeros, left-none, none-left}
+use Rattle.modes.proofs.Calls.{kept, zeros}
 use Rattle.promises.proofs.Keys.{KeyTaken}
+use Rattle.mode_answers.proofs.judge.Reads as judge-mode
+use Rattle.mode_answers.proofs.any_length.Reads as any-length
 use Rattle.modes.proofs.apply.Reads as apply
 use Rattle.steps.proofs.step.Reads as step
-use Rattle.pieces.proofs.any_length.Reads as any-length
+use Rattle.whole_pieces.proofs.in_order.Reads as in-order
+use Rattle.whole_pieces.proofs.shorter.Reads as shorter
 use Rattle.pieces.proofs.run.Reads as run
 
 -- ---- the words of this page
@@ -91,11 +96,37 @@ step-asks-nothing κs a = tt
 pub step-determined : (κs : _) (a : _) (r r′ : _) (s s′ : _) → step.Post κs a r s → step.Post κs a r′ s′ → r ≡ r′
 step-determined κs a r r′ s s′ p q = p ∙ sym q
 
+pub judge-mode-asks-nothing : (κs : _) (a : _) → judge-mode.Asked κs a
+judge-mode-asks-nothing κs a = tt
+
+pub judge-mode-determined : (κs : _) (a : _) (r r′ : _) (s s′ : _) → judge-mode.Post κs a r s → judge-mode.Post κs a r′ s′ → r ≡ r′
+judge-mode-determined κs a r r′ s s′ p q = p ∙ sym q
+
 pub any-length-asks-nothing : (κs : _) (a : _) → any-length.Asked κs a
 any-length-asks-nothing κs a = tt
 
 pub any-length-determined : (κs : _) (a : _) (r r′ : _) (s s′ : _) → any-length.Post κs a r s → any-length.Post κs a r′ s′ → r ≡ r′
 any-length-determined κs a r r′ s s′ p q = p ∙ sym q
+
+pub shorter-asks-nothing : (κs : _) (a : _) → shorter.Asked κs a
+shorter-asks-nothing κs a = tt
+
+pub shorter-determined : (κs : _) (a : _) (r r′ : _) (s s′ : _) → shorter.Post κs a r s → shorter.Post κs a r′ s′ → r ≡ r′
+shorter-determined κs a r r′ s s′ p q = p ∙ sym q
+
+pub in-order-asks-nothing : (κs : _) (a : _) → in-order.Asked κs a
+in-order-asks-nothing κs a = tt
+
+pub in-order-determined : (κs : _) (a : _) (r r′ : _) (s s′ : _) → in-order.Post κs a r s → in-order.Post κs a r′ s′
+    → (r ≡ r′) × (now (s .1 .1 .1 .1 .1 .1 .0) ≡ now (s′ .1 .1 .1 .1 .1 .1 .0))
+in-order-determined κs a r r′ s s′ p q = let e = p ∙ sym q in (ap (λ (x : List ℕ × List ℕ). x .0) e, ap (λ (x : List ℕ × List ℕ). x .1) e)
+
+-- a run through whole pieces refuses nothing; where input and output have none in common it leaves the output as it was
+pub in-order-refused-keeps : (κs : _) (a : _) (r : _) (s : _) → in-order.Post κs a r s
+    → min (length (now (a .1 .1 .1 .1 .1 .0))) (length (now (a .1 .1 .1 .1 .1 .1 .0))) / 16 ≡ 0
+    → now (s .1 .1 .1 .1 .1 .1 .0) ≡ now (a .1 .1 .1 .1 .1 .1 .0)
+unfolding outputOf
+in-order-refused-keeps κs a r s p e = ap (λ (x : List ℕ × List ℕ). x .1) p ∙ rw e
 
 pub run-asks-nothing : (κs : _) (a : _) → run.Asked κs a
 run-asks-nothing κs a = tt

@@ -1,10 +1,10 @@
 -- Demand 1 for the numbers of the answers, and the value that a reason holds. Assumes nothing.
 use mathlib.Core.Path.{_≡_, sym, _∙_}
 use Rattle.schedule.proofs.KeyAnswer.number.Reads as key-number
-use Rattle.modes.proofs.ModeAnswer.number.Reads as mode-number
+use Rattle.mode_answers.proofs.ModeAnswer.number.Reads as mode-number
 use Rattle.wrap.proofs.WrapAnswer.number.Reads as wrap-number
-use Rattle.image.proofs.WriteAnswer.number.Reads as write-number
-use Rattle.turns.proofs.Stop.number.Reads as stop-number
+use Rattle.writer.proofs.WriteAnswer.number.Reads as write-number
+use Rattle.tally.proofs.Stop.number.Reads as stop-number
 use Rattle.image.proofs.Completion.number.Reads as completion-number
 use Rattle.header.proofs.Reason.number.Reads as reason-number
 use Rattle.header.proofs.Reason.value.Reads as reason-value

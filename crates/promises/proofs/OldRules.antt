@@ -10,8 +10,9 @@ use lib.Dec.{eqb, ltb, leb}
 use lib.ListN.{drop}
 use Rattle.octets.specs.Octets.{choose}
 use Rattle.layout.specs.Layout.{checkAt, headOf}
-use Rattle.header.specs.Marks.{selected}
-use Rattle.header.specs.Rules.{firstOf, done, closed, countFits, lengthFits, headTests, reasonNumber, reasonValue}
+use Rattle.limits.specs.Fits.{countFits, lengthFits}
+use Rattle.limits.specs.Marks.{selected}
+use Rattle.header.specs.Rules.{firstOf, done, closed, headTests, reasonNumber, reasonValue}
 use Rattle.layout.specs.declared.Head.{Head}
 use Rattle.header.specs.declared.Progress.{Progress}
 use Rattle.header.specs.declared.Reason.{Reason}
@@ -23,8 +24,8 @@ use Rattle.format.specs.Edition.{Edition, noCheck}
 use Rattle.format.specs.Sealed.{checks, fillZero}
 use Rattle.format.specs.Judge.{Keys, tests, judge, taken, ofEdition}
 use Rattle.turns.specs.Turn.{Reading, readBlocks, later, onward}
-use Rattle.turns.specs.declared.Stop.{Stop}
-use Rattle.turns.specs.declared.Stop.the-variants.{End, Asked, Lent, Room, At}
+use Rattle.tally.specs.declared.Stop.{Stop}
+use Rattle.tally.specs.declared.Stop.the-variants.{End, Asked, Lent, Room, At}
 use Rattle.promises.proofs.Lemmas.ImageJudge.{accepted-met, right-below}
 
 -- ---- answers as numbers and values

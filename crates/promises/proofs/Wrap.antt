@@ -10,8 +10,9 @@ use Rattle.octets.specs.Octets.{Bytes, Octets}
 use Rattle.octets.specs.Blocks.{BlockCipher, Lawful}
 use Rattle.fips197.specs.Cipher.{aesOf}
 use Rattle.fips197.proofs.Aes.{key-lawful}
-use Rattle.wrap.specs.Wrap.{initial, register, step, pass, passes, wrapped, unstep, unpass, unpasses, unwrapped}
-use Rattle.wrap.specs.Calls.{wrapNumber, sizeFits, wrappedSizeFits, wrapAnswer, unwrapAnswer, wrapOutput, unwrapOutput}
+use Rattle.registers.specs.Wrap.{initial, register, step, pass, passes, wrapped, unstep, unpass, unpasses, unwrapped}
+use Rattle.registers.specs.Sizes.{wrappedSizeFits}
+use Rattle.wrap.specs.Calls.{wrapNumber, sizeFits, wrapAnswer, unwrapAnswer, wrapOutput, unwrapOutput}
 use Rattle.wrap.specs.declared.WrapAnswer.{WrapAnswer}
 use Rattle.wrap.specs.declared.WrapAnswer.the-variants.{WrapDone, WrapKey, WrapSize, WrapRoom, WrongInitial}
 use Rattle.promises.proofs.Keys.{KeyTaken}

@@ -1,5 +1,6 @@
--- Demand 1 for the key wrap's two calls, then demands 2 and 3 for what they answer and write. Assumes nothing.
+-- Demand 1 for the key wrap's calls, then demands 2 and 3 for what they answer and write. Assumes nothing.
 use mathlib.Core.Path.{_≡_, refl, sym, ap, ap₂, subst, _∙_}
+use mathlib.Core.Bool.{false}
 use mathlib.Core.List.{List}
 use Prim.Native.Nat.{ℕ, _+_, _≤_}
 use denote.Ref.{now}
@@ -7,7 +8,7 @@ use native.Mathlib.Omega.{arith}
 use lib.ListN.{length, take, drop}
 use Rattle.octets.specs.Octets.{Bytes}
 use Rattle.fips197.specs.Cipher.{aesOf}
-use Rattle.wrap.specs.Wrap.{wrapped}
+use Rattle.registers.specs.Wrap.{wrapped}
 use Rattle.wrap.specs.Calls.{wrapNumber, wrapOutput, unwrapAnswer, unwrapOutput}
 use Rattle.wrap.specs.declared.WrapAnswer.{WrapAnswer}
 use Rattle.wrap.specs.declared.WrapAnswer.the-variants.{WrapDone, WrapKey, WrapSize, WrapRoom, WrongInitial}
@@ -15,10 +16,52 @@ use Rattle.promises.proofs.Keys.{KeyTaken}
 use Rattle.promises.proofs.WrapTerms.{afterWrap, afterUnwrap, WrapFit, WrapSays, UnwrapFit, UnwrapSays, WrappingOf}
 use Rattle.promises.proofs.Lemmas.WrapLaws.{wrap-keeps, unwrap-keeps}
 use Rattle.promises.proofs.Wrap.{wrap-answer-as-told, unwrap-answer-as-told, wrap-never-19, fit-is-wrapped, fit-is-unwrapped, key-data-is-wrapped, unwrap-after-wrap, accepted-exactly-wrappings, accepted-is-handed-out}
+use Rattle.registers.specs.Sizes.{wrappedSizeFits, passedOver, unpassedOver}
+use Rattle.registers.proofs.wrapped_size_fits.Reads as wrapped-size-fits
+use Rattle.registers.proofs.is_initial.Reads as is-initial
+use Rattle.registers.proofs.passes.Reads as passes
+use Rattle.registers.proofs.unpasses.Reads as unpasses
 use Rattle.wrap.proofs.wrap.Reads as wrap
 use Rattle.wrap.proofs.unwrap.Reads as unwrap
 
 -- ---- demand 1
+
+pub wrapped-size-fits-asks-nothing : (κs : _) (a : _) → wrapped-size-fits.Asked κs a
+wrapped-size-fits-asks-nothing κs a = tt
+
+pub wrapped-size-fits-determined : (κs : _) (a : _) (r r′ : _) (s s′ : _) → wrapped-size-fits.Post κs a r s → wrapped-size-fits.Post κs a r′ s′ → r ≡ r′
+wrapped-size-fits-determined κs a r r′ s s′ p q = p ∙ sym q
+
+pub is-initial-asks-nothing : (κs : _) (a : _) → is-initial.Asked κs a
+is-initial-asks-nothing κs a = tt
+
+pub is-initial-determined : (κs : _) (a : _) (r r′ : _) (s s′ : _) → is-initial.Post κs a r s → is-initial.Post κs a r′ s′ → r ≡ r′
+is-initial-determined κs a r r′ s s′ p q = p ∙ sym q
+
+pub passes-asks-nothing : (κs : _) (a : _) → passes.Asked κs a
+passes-asks-nothing κs a = tt
+
+pub passes-determined : (κs : _) (a : _) (r r′ : _) (s s′ : _) → passes.Post κs a r s → passes.Post κs a r′ s′
+    → now (s .1 .1 .1 .0) ≡ now (s′ .1 .1 .1 .0)
+passes-determined κs a r r′ s s′ p q = p ∙ sym q
+
+-- registers of no size in the rule stay as they are
+pub passes-refused-keeps : (κs : _) (a : _) (r : _) (s : _) → passes.Post κs a r s → wrappedSizeFits (length (now (a .1 .1 .1 .0))) ≡ false
+    → now (s .1 .1 .1 .0) ≡ now (a .1 .1 .1 .0)
+unfolding passedOver
+passes-refused-keeps κs a r s p e = p ∙ rw e
+
+pub unpasses-asks-nothing : (κs : _) (a : _) → unpasses.Asked κs a
+unpasses-asks-nothing κs a = tt
+
+pub unpasses-determined : (κs : _) (a : _) (r r′ : _) (s s′ : _) → unpasses.Post κs a r s → unpasses.Post κs a r′ s′
+    → now (s .1 .1 .1 .0) ≡ now (s′ .1 .1 .1 .0)
+unpasses-determined κs a r r′ s s′ p q = p ∙ sym q
+
+pub unpasses-refused-keeps : (κs : _) (a : _) (r : _) (s : _) → unpasses.Post κs a r s → wrappedSizeFits (length (now (a .1 .1 .1 .0))) ≡ false
+    → now (s .1 .1 .1 .0) ≡ now (a .1 .1 .1 .0)
+unfolding unpassedOver
+unpasses-refused-keeps κs a r s p e = p ∙ rw e
 
 pub wrap-asks-nothing : (κs : _) (a : _) → wrap.Asked κs a
 wrap-asks-nothing κs a = tt

@@ -4,7 +4,6 @@ use crate::clock;
 use crate::input;
 use crate::keep;
 use crate::line;
-use clock::Clock;
 use image::ReadStarted;
 use image::Reader;
 use line::Told;

@@ -6,8 +6,8 @@ use crate::line;
 use crate::tell;
 use cut::Counted;
 use digits::Number;
-use image::Numbers;
 use line::Told;
+use writer::Numbers;
 ghost use Prim.Native.Nat.{_≤_, _<_};
 
 type Blocks = [u8; 65536];
@@ -50,7 +50,7 @@ fn is_written(
         release: job.release,
         edition: job.edition,
     };
-    let answer = image::write(
+    let answer = writer::write(
         input::encryption_key(keys),
         input::check_key(keys),
         numbers,

@@ -9,7 +9,8 @@ use lib.Dec.{eqb, ltb, eqb→eq, ltb→lt}
 use Rattle.octets.specs.Octets.{choose, xor, tabulate, entry}
 use Rattle.octets.proofs.Tests.{both-left, both-right, at-each, below, on-bytes}
 use Rattle.octets.proofs.Fill.{is-tabulate, getD-tabulate}
-use Rattle.logarithms.specs.Tables.{lTable, eTable}
+use Rattle.logarithms.specs.Tables.{lTable}
+use Rattle.powers.specs.Tables.{eTable}
 use Rattle.field.specs.Field.{xTimes, productWithin, _•_}
 use Rattle.field.specs.Logarithms.{E, L}
 use Rattle.field.proofs.Logarithms.{zero-product, E-sum, E-rule, E-around, E-turns, L-rule, L-lt, E-of-L}

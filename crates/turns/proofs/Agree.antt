@@ -10,7 +10,7 @@ use Rattle.tables.specs.Tables.{forwardTable, inverseTable}
 use Rattle.lookups.specs.Lookups.{oneTable, inverseWords}
 use Rattle.sp800_38b.specs.Cmac.{doubled, key1, key2}
 use Rattle.layout.specs.Layout.{headOf}
-use Rattle.header.specs.Marks.{selected}
+use Rattle.limits.specs.Marks.{selected}
 use Rattle.header.specs.declared.Progress.{Progress}
 use Rattle.header.specs.declared.Verdict.{Verdict}
 use Rattle.header.specs.declared.Verdict.the-variants.{Accepted, Refused}

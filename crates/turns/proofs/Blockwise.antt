@@ -1,11 +1,9 @@
 -- A turn block by block: what is left to do from block j on, put behind what was done, is the whole turn. Assumes nothing.
-use mathlib.Core.Path.{_≡_, refl, sym, ap, ap₂, _∙_}
-use mathlib.Core.Bool.{Bool, true, false, _&&_}
-use types.Run.{OneOf, miss}
-use denote.Enum.Declared.{tagOf}
-use mathlib.Core.List.{List, [], _∷_, _++_, append-assoc}
+use mathlib.Core.Path.{_≡_, refl, sym, ap, _∙_}
+use mathlib.Core.Bool.{false, _&&_}
+use mathlib.Core.List.{List, [], _++_, append-assoc}
 use lib.Dec.{ltb}
-use borrow.Author.Tests.{ltb-true, ltb-false}
+use borrow.Author.Tests.{ltb-false}
 use Prim.Native.Nat.{ℕ, suc, _+_, _-_, _*_, _%_, _≤_, _<_}
 use native.Mathlib.Nat.{zero-add, add-zero, sub-zero}
 use native.Mathlib.Omega.{arith}
@@ -21,12 +19,12 @@ use Rattle.header.specs.declared.Reason.{Reason}
 use Rattle.header.specs.declared.Verdict.{Verdict}
 use Rattle.header.specs.declared.Verdict.the-variants.{Accepted, Refused}
 use Rattle.format.specs.Judge.{taken, BlockReader}
-use Rattle.turns.specs.Turn.{Reading, later, onward, readBlocks, cut, blocksReadWith, blocksRead}
-use Rattle.turns.specs.Lent.{following, stepped, partAfter, unstopped}
-use Rattle.turns.specs.declared.Stop.{Stop}
-use Rattle.turns.specs.declared.Stop.the-variants.{End, Asked, Lent, Room, At}
-use Rattle.turns.specs.declared.BlocksRead.{BlocksRead}
-use Rattle.turns.proofs.Stop.{the-type}
+use Rattle.tally.specs.Tally.{blocksReadWith, following, stepped, unstopped}
+use Rattle.tally.proofs.Laws.{stepped-plain}
+use Rattle.turns.specs.Turn.{Reading, later, onward, readBlocks, cut, blocksRead, partAfter}
+use Rattle.tally.specs.declared.Stop.{Stop}
+use Rattle.tally.specs.declared.Stop.the-variants.{End, Asked, Lent, Room, At}
+use Rattle.tally.specs.declared.BlocksRead.{BlocksRead}
 
 -- a place counted from j blocks earlier
 laterBy : ℕ → Stop → Stop
@@ -204,24 +202,6 @@ pub ahead-start : (d : BlockReader) (bl : List ℕ) (n : ℕ) (s : Progress) (ou
 unfolding ahead aheadBy
 ahead-start d bl n s out t e = rw e (ap (λ (k : ℕ). finish 0 0 out (readBlocks d s (cut k bl))) (sub-zero n))
 
-goes : (x : Stop) (u : Bool) → (unstopped x && u) ≡ true → (x ≡ End) × (u ≡ true)
-goes End u e = (refl, e)
-goes Asked u e = let y : _≡_ {A = ℕ} 0 1 = cc in absurd (omega arith)
-goes Lent u e = let y : _≡_ {A = ℕ} 0 1 = cc in absurd (omega arith)
-goes Room u e = let y : _≡_ {A = ℕ} 0 1 = cc in absurd (omega arith)
-goes (At place reason) u e = let y : _≡_ {A = ℕ} 0 1 = cc in absurd (omega arith)
-
--- where something has, it does not go on
-pub stopped-not : (x : Stop) (u : Bool) → OneOf (1 ∷ 2 ∷ 3 ∷ 4 ∷ []) (tagOf the-type x) → false ≡ (unstopped x && u)
-stopped-not End u h = absurd (miss (1 ∷ 2 ∷ 3 ∷ 4 ∷ []) 0 tt h)
-stopped-not Asked u h = refl
-stopped-not Lent u h = refl
-stopped-not Room u h = refl
-stopped-not (At place reason) u h = refl
-
-pub goes-on : (t : BlocksRead) (n : ℕ) → (unstopped (t .stop) && ltb (t .accepted) n) ≡ true → (t .stop ≡ End) × (t .accepted < n)
-goes-on t n e = let g = goes (t .stop) (ltb (t .accepted) n) e in (g .0, ltb-true (t .accepted) n (g .1))
-
 pub ahead-end : (d : BlockReader) (bl : List ℕ) (n : ℕ) (t : BlocksRead) (out : List ℕ) → (unstopped (t .stop) && ltb (t .accepted) n) ≡ false → (t, out) ≡ ahead d bl n t out
 unfolding ahead aheadBy
 ahead-end d bl n t out e = go (t .stop) refl e
@@ -235,7 +215,7 @@ ahead-end d bl n t out e = go (t .stop) refl e
     go (At place reason) q f = refl
 
 -- one block more
-module _ (d : BlockReader) (bl : List ℕ) (n : ℕ) (t : BlocksRead) (out : List ℕ) (going : t .stop ≡ End) (h : t .accepted < n)
+module _ (d : BlockReader) (bl : List ℕ) (n : ℕ) (t : BlocksRead) (out : List ℕ) (going : t .stop ≡ End) (h : t .accepted < n) (most : n ≤ 128) (within : t .bytes ≤ t .accepted * 65535)
     (b : List ℕ) (eb : b ≡ take 512 (drop (t .accepted * 512) bl)) (bytes : Bytes b) (size : length (d .plain b) ≡ 480) (room : t .accepted * 480 + 480 ≤ length out)
     (new : BlocksRead) (en : new ≡ stepped (d .verdict (t .progress) b) t (headOf b) (drop 496 b))
     (x y o : List ℕ) (ex : x ≡ take (t .accepted * 480 + 480 - t .accepted * 480) (drop (t .accepted * 480) out)) (ey : y ≡ partAfter (d .verdict (t .progress) b) (d .plain b) x)
@@ -255,7 +235,8 @@ module _ (d : BlockReader) (bl : List ℕ) (n : ℕ) (t : BlocksRead) (out : Lis
       go : (v : Verdict) → d .verdict (t .progress) b ≡ v → P new o
       go Accepted q =
           let e : new ≡ blocksReadWith (following (t .progress) (headOf b) (drop 496 b)) (t .accepted + 1) (t .bytes + headOf b .len) End =
-          en ∙ ap₂ (λ (v : Verdict) (z : Stop). stepped v (blocksReadWith (t .progress) (t .accepted) (t .bytes) z) (headOf b) (drop 496 b)) q going in
+          en ∙ ap (λ (v : Verdict). stepped v t (headOf b) (drop 496 b)) q ∙ stepped-plain t (headOf b) (drop 496 b) (omega arith) within (len-fits b bytes)
+          ∙ ap (λ (z : Stop). blocksReadWith (following (t .progress) (headOf b) (drop 496 b)) (t .accepted + 1) (t .bytes + headOf b .len) z) going in
           rw e (good q (part-put out (t .accepted * 480) y (d .plain b) o (ey ∙ ap (λ (v : Verdict). partAfter v (d .plain b) x) q) eo))
       go (Refused reason) q =
           let e : new ≡ blocksReadWith (t .progress) (t .accepted) (t .bytes) (At (t .accepted) reason) = en ∙ ap (λ (v : Verdict). stepped v t (headOf b) (drop 496 b)) q in
@@ -264,10 +245,10 @@ module _ (d : BlockReader) (bl : List ℕ) (n : ℕ) (t : BlocksRead) (out : Lis
   pub step-keeps : length o ≡ length out
   step-keeps = by-verdict (λ (u : BlocksRead) (z : List ℕ). length z ≡ length out) (λ q e. part-keeps out (t .accepted * 480) (d .plain b) o room size e) (λ reason q. refl)
 
-  pub step-within : t .bytes ≤ t .accepted * 65535 → (new .accepted ≤ n) × (new .bytes ≤ new .accepted * 65535)
-  step-within w =
+  pub step-within : (new .accepted ≤ n) × (new .bytes ≤ new .accepted * 65535)
+  step-within =
       by-verdict (λ (u : BlocksRead) (z : List ℕ). (u .accepted ≤ n) × (u .bytes ≤ u .accepted * 65535))
-      (λ q e. (omega arith, omega (arith, len-fits b bytes))) (λ reason q. (omega arith, w))
+      (λ q e. (omega arith, omega (arith, len-fits b bytes))) (λ reason q. (omega arith, within))
 
   pub step-less : toGo new n < toGo t n
   unfolding toGo leftBy

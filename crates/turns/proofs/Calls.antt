@@ -11,8 +11,8 @@ use Rattle.octets.specs.Octets.{over}
 use Rattle.header.specs.declared.Progress.{Progress}
 use Rattle.format.specs.Judge.{Keys, ofBoth}
 use Rattle.turns.specs.Turn.{readBlocks, cut, handled, whole, blocksRead, turnUnder}
-use Rattle.turns.specs.declared.BlocksRead.{BlocksRead}
-use Rattle.turns.specs.declared.Stop.the-variants.{Asked, Lent, Room}
+use Rattle.tally.specs.declared.BlocksRead.{BlocksRead}
+use Rattle.tally.specs.declared.Stop.the-variants.{Asked, Lent, Room}
 
 module _ (n : Keys) (s : Progress) (given : List ℕ) (asked : ℕ) (out : List ℕ) where
   pub turn-asked : (ltb 0 asked && leb asked 128) ≡ false → (whole s Asked, out) ≡ turnUnder n s given asked out

@@ -8,16 +8,16 @@ use Rattle.octets.specs.Octets.{choose, over}
 use Rattle.fips197.specs.Cipher.{standard}
 use Rattle.sp800_38b.specs.Cmac.{cmac}
 use Rattle.layout.specs.Layout.{bodySize, blockSize, headOf}
-use Rattle.header.specs.Rules.{reasonNumber}
 use Rattle.header.specs.declared.Progress.{Progress}
 use Rattle.header.specs.declared.Verdict.{Verdict}
 use Rattle.header.specs.declared.Verdict.the-variants.{Accepted, Refused}
 use Rattle.format.specs.Judge.{Keys, BlockReader, ofBoth, taken}
 use Rattle.format.specs.Lent.{usable}
 use Rattle.format.specs.declared.Rounds.{Rounds}
-use Rattle.turns.specs.declared.BlocksRead.{BlocksRead}
-use Rattle.turns.specs.declared.Stop.{Stop}
-use Rattle.turns.specs.declared.Stop.the-variants.{End, Asked, Lent, Room, At}
+use Rattle.tally.specs.Tally.{blocksReadWith}
+use Rattle.tally.specs.declared.BlocksRead.{BlocksRead}
+use Rattle.tally.specs.declared.Stop.{Stop}
+use Rattle.tally.specs.declared.Stop.the-variants.{End, Asked, Lent, Room, At}
 
 -- how far the blocks were taken: how far the reader has come after them, how many were accepted, the sum of their payload lengths,
 -- how it stopped, and the bytes handed out
@@ -56,6 +56,11 @@ unfoldable pub cut : ℕ → List ℕ → List (List ℕ)
 cut zero s = []
 cut (suc n) s = take blockSize s ∷ cut n (drop blockSize s)
 
+-- what the part of the output that is a block's holds after it, as the code has it
+abbrev pub partAfter : Verdict → (plain part : List ℕ) → List ℕ
+partAfter Accepted plain part = plain
+partAfter (Refused reason) plain part = part
+
 -- ---- a turn
 
 -- AES under the two schedules; they are usable where keys can have given them
@@ -69,9 +74,6 @@ handled lent asked = min asked (length lent / blockSize)
 -- it reads both editions
 abbrev pub readingBy : Keys → Progress → (lent : List ℕ) (asked : ℕ) → Reading
 readingBy k s lent asked = readBlocks (ofBoth k) s (cut (handled lent asked) lent)
-
-abbrev pub blocksReadWith : Progress → (accepted bytes : ℕ) → Stop → BlocksRead
-blocksReadWith s accepted bytes stop = record { progress = s; accepted = accepted; bytes = bytes; stop = stop }
 
 abbrev pub blocksRead : Reading → BlocksRead
 blocksRead t = blocksReadWith (t .progress) (t .accepted) (t .bytes) (t .stop)
@@ -87,11 +89,3 @@ turnUnder k s lent asked out =
     (choose (not (eqb (length lent % blockSize) 0)) (whole s Lent, out)
     (choose (ltb (length out) (handled lent asked * bodySize)) (whole s Room, out)
     (blocksRead (readingBy k s lent asked), over (readingBy k s lent asked .out) out)))
-
--- the number of each way to stop (docs/REFUSALS.md)
-abbrev pub stopNumber : Stop → ℕ
-stopNumber End = 0
-stopNumber Asked = 5
-stopNumber Lent = 6
-stopNumber Room = 4
-stopNumber (At place reason) = reasonNumber reason

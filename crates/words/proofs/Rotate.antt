@@ -49,6 +49,10 @@ module _ (x : ℕ) (h : x < 4294967296) where
       ap (λ (y : ℕ). y / 256 + y % 256 * 16777216) (sym (word-bytes x h))
       ∙ by-three (byte 0 x) (byte 1 x) (byte 2 x) (byte 3 x) (byte-lt 0 x) (byte-lt 1 x) (byte-lt 2 x) (byte-lt 3 x)
 
+pub same-word : {a b c d p q u v : ℕ} → a ≡ p → b ≡ q → c ≡ u → d ≡ v → word a b c d ≡ word p q u v
+same-word {a} {b} {c} {d} {p} {q} {u} {v} e f g h =
+    ap (λ (x : ℕ). word x b c d) e ∙ ap (λ (x : ℕ). word p x c d) f ∙ ap (λ (x : ℕ). word p q x d) g ∙ ap (λ (x : ℕ). word p q u x) h
+
 -- a word made of four substituted bytes
 pub is-diagonal : (sub : ℕ → ℕ) (a b c d r : ℕ) → sub (byte 0 a) < 256 → sub (byte 1 b) < 256 → sub (byte 2 c) < 256 → sub (byte 3 d) < 256
     → r ≡ diagonal sub a b c d → IsDiagonal sub a b c d r

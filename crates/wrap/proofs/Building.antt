@@ -2,23 +2,25 @@
 use mathlib.Core.Path.{_≡_, refl, sym, ap, ap₂, _∙_}
 use mathlib.Core.Bool.{Bool, true, false}
 use mathlib.Core.List.{List, _++_}
-use Prim.Native.Nat.{ℕ, _+_, _-_, _/_, _≤_}
+use Prim.Native.Nat.{ℕ, _+_, _-_, _/_, _%_, _≤_}
 use native.Mathlib.Omega.{arith}
 use lib.ListN.{length, take, drop, replicate, length-append, length-drop}
 use lib.Seq.{paste, take-at, drop-at, drop-drop, take-append-le, drop-append-le, take-length}
 use Rattle.blocks.proofs.Laws.{paste-front, drop-zeros}
 use Rattle.octets.specs.Octets.{padTo, same, over}
 use Rattle.octets.specs.Blocks.{BlockCipher}
-use Rattle.wrap.specs.Wrap.{initial, register, passes, wrapped, unpasses, unwrapped}
+use Rattle.registers.specs.Wrap.{initial, register, passes, wrapped, unwrapped}
+use Rattle.registers.specs.Sizes.{passedOver, unpassedOver}
+use Rattle.registers.proofs.Places.{drop-past}
+use Rattle.registers.proofs.Sizes.{passed-is, unpassed-is}
 use Rattle.wrap.specs.Lent.{openedOver}
 use Rattle.wrap.specs.Calls.{opening}
 use Rattle.wrap.specs.declared.WrapAnswer.the-variants.{WrapDone, WrongInitial}
-use Rattle.wrap.proofs.Places.{drop-past}
 
 -- ---- wrapping
 
-module _ (c : BlockCipher) (p out : List ℕ) (m : ℕ) (em : m ≡ length p + 8) (o1 o2 mid o3 : List ℕ) (e1 : o1 ≡ paste out 0 initial 8) (e2 : o2 ≡ paste o1 8 p (length p))
-    (e3 : mid ≡ passes c (length p / 8) 6 (take m o2)) (l3 : length mid ≡ length (take m o2)) (e4 : o3 ≡ mid ++ drop m o2) where
+module _ (c : BlockCipher) (p out : List ℕ) (low : 16 ≤ length p) (high : length p ≤ 64) (eights : length p % 8 ≡ 0) (m : ℕ) (em : m ≡ length p + 8) (o1 o2 mid o3 : List ℕ) (e1 : o1 ≡ paste out 0 initial 8) (e2 : o2 ≡ paste o1 8 p (length p))
+    (e3 : mid ≡ passedOver c (take m o2)) (l3 : length mid ≡ length (take m o2)) (e4 : o3 ≡ mid ++ drop m o2) where
   len : length p + 8 ≡ 8 + length p
   len = omega arith
 
@@ -36,16 +38,21 @@ module _ (c : BlockCipher) (p out : List ℕ) (m : ℕ) (em : m ≡ length p + 8
   rest : drop m o2 ≡ drop (length p + 8) out
   rest = ap₂ (λ (x : ℕ) (y : List ℕ). drop x y) em laid ∙ drop-at (initial ++ p) (drop (length p + 8) out) (length p + 8) size
 
-  pub wrapped-over : o3 ≡ over (wrapped c p) out
+  through : passedOver c (initial ++ p) ≡ wrapped c p
   unfolding wrapped
+  through =
+      let k : length (initial ++ p) / 8 - 1 ≡ length p / 8 = omega (arith, size) in
+      sym (passed-is c (initial ++ p) (omega (arith, size)) (omega (arith, size)) (omega (arith, size))) ∙ ap (λ (x : ℕ). passes c x 6 (initial ++ p)) k
+
+  pub wrapped-over : o3 ≡ over (wrapped c p) out
   wrapped-over =
       let n : length p + 8 ≡ length mid = sym (l3 ∙ ap length part ∙ size) in
-      e4 ∙ ap (mid ++_) (rest ∙ ap (λ (x : ℕ). drop x out) n) ∙ ap (λ (x : List ℕ). over x out) (e3 ∙ ap (passes c (length p / 8) 6) part)
+      e4 ∙ ap (mid ++_) (rest ∙ ap (λ (x : ℕ). drop x out) n) ∙ ap (λ (x : List ℕ). over x out) (e3 ∙ ap (passedOver c) part ∙ through)
 
 -- ---- unwrapping
 
-module _ (c : BlockCipher) (d : List ℕ) (m : ℕ) (em : m ≡ length d) (w1 mid w2 : List ℕ) (e1 : w1 ≡ paste (replicate 72 0) 0 d (length d))
-    (e2 : mid ≡ unpasses c (length d / 8 - 1) 6 (take m w1)) (l2 : length mid ≡ length (take m w1)) (e3 : w2 ≡ mid ++ drop m w1) where
+module _ (c : BlockCipher) (d : List ℕ) (low : 24 ≤ length d) (high : length d ≤ 72) (eights : length d % 8 ≡ 0) (m : ℕ) (em : m ≡ length d) (w1 mid w2 : List ℕ) (e1 : w1 ≡ paste (replicate 72 0) 0 d (length d))
+    (e2 : mid ≡ unpassedOver c (take m w1)) (l2 : length mid ≡ length (take m w1)) (e3 : w2 ≡ mid ++ drop m w1) where
   filled : w1 ≡ over d (replicate 72 0)
   filled = e1 ∙ paste-front (replicate 72 0) d
 
@@ -56,8 +63,7 @@ module _ (c : BlockCipher) (d : List ℕ) (m : ℕ) (em : m ≡ length d) (w1 mi
   past = ap₂ (λ (x : ℕ) (y : List ℕ). drop x y) em filled ∙ drop-at d (drop (length d) (replicate 72 0)) (length d) refl ∙ drop-zeros (length d) 72
 
   mid-is : mid ≡ unwrapped c d
-  unfolding unwrapped
-  mid-is = e2 ∙ ap (unpasses c (length d / 8 - 1) 6) whole
+  mid-is = e2 ∙ ap (unpassedOver c) whole ∙ sym (unpassed-is c d low high eights)
 
   pub opened-size : length (unwrapped c d) ≡ length d
   opened-size = ap length (sym mid-is) ∙ l2 ∙ ap length whole

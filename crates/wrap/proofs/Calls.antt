@@ -19,14 +19,16 @@ use Rattle.lookups.specs.Lookups.{inverseWords, oneTable}
 use Rattle.tables.specs.Tables.{forwardTable, inverseTable}
 use Rattle.lookups.proofs.Lawful.{lent-agrees}
 use Rattle.fips197.proofs.Aes.{key-lawful}
-use Rattle.wrap.specs.Wrap.{initial, register, wrapped, unwrapped}
-use Rattle.wrap.specs.Calls.{sizeFits, wrappedSizeFits, wrapRuled, wrapAnswer, wrapOutput, opening, unwrapAnswer, unwrapOutput}
+use Rattle.registers.specs.Wrap.{initial, register, wrapped, unwrapped}
+use Rattle.registers.specs.Sizes.{wrappedSizeFits}
+use Rattle.registers.proofs.Sizes.{wrapped-size-parts}
+use Rattle.registers.proofs.Agree.{wrapped-same, unwrapped-same}
+use Rattle.wrap.specs.Calls.{sizeFits, wrapRuled, wrapAnswer, wrapOutput, opening, unwrapAnswer, unwrapOutput}
 use Rattle.wrap.specs.Lent.{openedOver}
 use Rattle.wrap.specs.declared.WrapAnswer.{WrapAnswer}
 use Rattle.wrap.specs.declared.WrapAnswer.the-variants.{WrapDone, WrapKey, WrapSize, WrapRoom, WrongInitial}
 use Rattle.wrap.proofs.WrapAnswer.{the-type}
-use Rattle.wrap.proofs.Sizes.{size-parts, wrapped-size-parts}
-use Rattle.wrap.proofs.Agree.{wrapped-same, unwrapped-same}
+use Rattle.wrap.proofs.Sizes.{size-parts}
 
 -- the tag of an answer that is not the first case
 abbrev pub Refused : WrapAnswer → Type 0
@@ -101,15 +103,15 @@ module _ (key : List ℕ) (x : Expanded) (px : x ≡ scheduleOf sBox key) (dat o
       wrap-passed : Passed (keyNumber (x .answer)) (sizeFits (length dat)) (length dat + 8) (length out)
       wrap-passed = passed (keyNumber (x .answer)) (sizeFits (length dat)) (length dat + 8) (length out) (sym pa ∙ q)
 
-      pub wrap-fits : (length dat ≤ 64) × (length dat % 8 ≡ 0) × (length dat + 8 ≤ length out)
-      wrap-fits = let s = size-parts (length dat) (wrap-passed .size-right) in (s .1, s .2, wrap-passed .room)
+      pub wrap-fits : (16 ≤ length dat) × (length dat ≤ 64) × (length dat % 8 ≡ 0) × (length dat + 8 ≤ length out)
+      wrap-fits = let s = size-parts (length dat) (wrap-passed .size-right) in (s .0, s .1, s .2, wrap-passed .room)
 
       pub wrapped-by : (t o : List ℕ) → t ≡ forwardTable → Bytes dat → o ≡ over (wrapped (oneTable t (x .schedule .words) (x .schedule .rounds)) dat) out → o ≡ wrapOutput a key dat out
       wrapped-by t o pt b po =
           let w = scheduleOf sBox key .schedule .words in
           let nr = scheduleOf sBox key .schedule .rounds in
           po ∙ rw (q, px, pt)
-          (ap (λ (y : List ℕ). over y out) (wrapped-same (oneTable forwardTable w nr) (aesOf key) (lent-agrees w nr .enc-same) (lawful (wrap-passed .key-taken)) dat (wrap-fits .1) b))
+          (ap (λ (y : List ℕ). over y out) (wrapped-same (oneTable forwardTable w nr) (aesOf key) (lent-agrees w nr .enc-same) (lawful (wrap-passed .key-taken)) dat (wrap-fits .2) b))
 
   module _ (pa : a ≡ wrapRuled (keyNumber (x .answer)) (wrappedSizeFits (length dat)) (length dat - 8) (length out) WrapDone) where
     pub unwrap-refused : Refused a → a ≡ unwrapAnswer key dat out
@@ -122,10 +124,10 @@ module _ (key : List ℕ) (x : Expanded) (px : x ≡ scheduleOf sBox key) (dat o
       unwrap-passed : Passed (keyNumber (x .answer)) (wrappedSizeFits (length dat)) (length dat - 8) (length out)
       unwrap-passed = passed (keyNumber (x .answer)) (wrappedSizeFits (length dat)) (length dat - 8) (length out) (sym pa ∙ q)
 
-      pub unwrap-fits : (8 ≤ length dat) × (length dat ≤ 72) × (length dat % 8 ≡ 0) × (length dat ≤ length out + 8)
+      pub unwrap-fits : (24 ≤ length dat) × (length dat ≤ 72) × (length dat % 8 ≡ 0) × (length dat ≤ length out + 8)
       unwrap-fits =
           let s = wrapped-size-parts (length dat) (unwrap-passed .size-right) in
-          (omega (arith, s .0), s .1, s .2, omega (arith, unwrap-passed .room))
+          (s .0, s .1, s .2, omega (arith, unwrap-passed .room))
 
       module _ (t v : List ℕ) (pt : t ≡ inverseTable) (pv : v ≡ inverseWords (x .schedule .words) (x .schedule .rounds)) (b : Bytes dat) where
         unwrapped-is : unwrapped (oneTable t v (x .schedule .rounds)) dat ≡ unwrapped (aesOf key) dat
@@ -133,7 +135,7 @@ module _ (key : List ℕ) (x : Expanded) (px : x ≡ scheduleOf sBox key) (dat o
             let w = scheduleOf sBox key .schedule .words in
             let nr = scheduleOf sBox key .schedule .rounds in
             let f = unwrap-fits in
-            rw (pv, px, pt) (unwrapped-same (oneTable inverseTable (inverseWords w nr) nr) (aesOf key) (lent-agrees w nr .dec-same) (lawful (unwrap-passed .key-taken)) dat (f .0) (f .2) b)
+            rw (pv, px, pt) (unwrapped-same (oneTable inverseTable (inverseWords w nr) nr) (aesOf key) (lent-agrees w nr .dec-same) (lawful (unwrap-passed .key-taken)) dat (omega (arith, f .0)) (f .2) b)
 
         module _ (r : WrapAnswer) (pr : r ≡ opening (oneTable t v (x .schedule .rounds)) dat) where
           opening-is : r ≡ opening (aesOf key) dat

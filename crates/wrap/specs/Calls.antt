@@ -9,7 +9,8 @@ use Rattle.octets.specs.Blocks.{BlockCipher}
 use Rattle.sbox.specs.Sbox.{sBox}
 use Rattle.schedule.specs.Schedule.{scheduleOf, keyNumber}
 use Rattle.fips197.specs.Cipher.{aesOf}
-use Rattle.wrap.specs.Wrap.{initial, register, wrapped, unwrapped}
+use Rattle.registers.specs.Wrap.{initial, register, wrapped, unwrapped}
+use Rattle.registers.specs.Sizes.{wrappedSizeFits}
 use Rattle.wrap.specs.declared.WrapAnswer.{WrapAnswer}
 use Rattle.wrap.specs.declared.WrapAnswer.the-variants.{WrapDone, WrapKey, WrapSize, WrapRoom, WrongInitial}
 
@@ -21,12 +22,9 @@ wrapNumber WrapRoom = 4
 wrapNumber WrapSize = 18
 wrapNumber WrongInitial = 19
 
--- key data is 16 to 64 bytes and a multiple of 8; wrapped data has 8 bytes more
+-- key data is 16 to 64 bytes and a multiple of 8: what wrapped data has, but for 8 bytes
 abbrev pub sizeFits : ℕ → Bool
 sizeFits n = leb 16 n && (leb n 64 && eqb (n % 8) 0)
-
-abbrev pub wrappedSizeFits : ℕ → Bool
-wrappedSizeFits n = leb 24 n && (leb n 72 && eqb (n % 8) 0)
 
 -- 1, 18, 4, in that order, of the key's number, whether the length is in the rule, the length of the result and that of the output
 unfoldable pub wrapRuled : (key : ℕ) (size : Bool) (result out : ℕ) → WrapAnswer → WrapAnswer

@@ -1,12 +1,10 @@
 // The key wrap of RFC 3394 under AES: replacement keys, wrapped under a key that the receiver has.
-mod registers;
-mod steps;
-
-use crate::registers::is_initial;
-use crate::steps::passes;
-use crate::steps::unpasses;
 use blocks::copy;
 use cipher::inverse_words;
+use registers::is_initial;
+use registers::passes;
+use registers::unpasses;
+use registers::wrapped_size_fits;
 use schedule::KeyAnswer;
 use schedule::KeySchedule;
 use tables::forward_table;
@@ -16,8 +14,9 @@ ghost use Prim.Native.Nat.{_+_, _-_, _%_, _≤_};
 ghost use lib.ListN.{length};
 ghost use Rattle.octets.specs.Octets.{padTo, over};
 ghost use Rattle.schedule.specs.Schedule.{keyNumber};
-ghost use Rattle.wrap.specs.Wrap.{wrapped, unwrapped};
 ghost use Rattle.lookups.specs.Lookups.{oneTable};
+ghost use Rattle.registers.specs.Wrap.{wrapped, unwrapped};
+ghost use Rattle.registers.specs.Sizes.{wrappedSizeFits};
 ghost use Rattle.wrap.specs.Lent.{openedOver};
 ghost use Rattle.wrap.specs.declared.WrapAnswer.the-variants.{WrapDone};
 ghost use Rattle.wrap.specs.Calls as spec;
@@ -97,18 +96,6 @@ fn size_fits(len: usize) -> bool
     len % 8 == 0
 }
 
-fn wrapped_size_fits(len: usize) -> bool
-    ensures { λ r. ⌜ r ≡ spec.wrappedSizeFits len ⌝ }
-{
-    if len < 24 {
-        return false;
-    }
-    if len > 72 {
-        return false;
-    }
-    len % 8 == 0
-}
-
 // The answer of wrapping, from that for the key and the lengths of data and output.
 fn judge_wrap(key: KeyAnswer, len: usize, room: usize) -> WrapAnswer
     ensures { λ r. ⌜ r ≡ spec.wrapRuled (keyNumber key) (spec.sizeFits len) (len + 8) room WrapDone ⌝ }
@@ -127,7 +114,7 @@ fn judge_wrap(key: KeyAnswer, len: usize, room: usize) -> WrapAnswer
 
 // The answer of unwrapping, but for what only the unwrapped registers can tell.
 fn judge_unwrap(key: KeyAnswer, len: usize, room: usize) -> WrapAnswer
-    ensures { λ r. ⌜ r ≡ spec.wrapRuled (keyNumber key) (spec.wrappedSizeFits len) (len - 8) room WrapDone ⌝ }
+    ensures { λ r. ⌜ r ≡ spec.wrapRuled (keyNumber key) (wrappedSizeFits len) (len - 8) room WrapDone ⌝ }
 {
     let KeyAnswer::Taken = key else {
         return WrapAnswer::WrapKey;
@@ -143,14 +130,14 @@ fn judge_unwrap(key: KeyAnswer, len: usize, room: usize) -> WrapAnswer
 
 // Nothing is refused from here on, so the registers stand in the output itself.
 fn wrap_into(table: &[u32; 256], words: &[u32; 60], rounds: usize, given: &[u8], output: &mut [u8])
-    requires { ⌜ (length (now given) ≤ 64) × (length (now given) % 8 ≡ 0) × (length (now given) + 8 ≤ length (now output)) ⌝ }
+    requires { ⌜ (16 ≤ length (now given)) × (length (now given) ≤ 64) × (length (now given) % 8 ≡ 0) × (length (now given) + 8 ≤ length (now output)) ⌝ }
     ensures { λ _. ⌜ now (output .exit) ≡ over (wrapped (oneTable (now (table .entry)) (now (words .entry)) rounds) (now (given .entry))) (now (output .entry)) ⌝ }
 {
     let first = [0xa6u8; 8];
     copy(&first, output, 0);
     copy(given, output, 8);
     let len = given.len() + 8;
-    passes(table, words, rounds, given.len() / 8, &mut output[0..len]);
+    passes(table, words, rounds, &mut output[0..len]);
 }
 
 // Works in memory of its own: nothing of a wrapped key whose check is wrong reaches the output.
@@ -161,7 +148,7 @@ fn unwrap_into(
     given: &[u8],
     output: &mut [u8],
 ) -> WrapAnswer
-    requires { ⌜ (8 ≤ length (now given)) × (length (now given) ≤ 72) × (length (now given) % 8 ≡ 0) × (length (now given) ≤ length (now output) + 8) ⌝ }
+    requires { ⌜ (24 ≤ length (now given)) × (length (now given) ≤ 72) × (length (now given) % 8 ≡ 0) × (length (now given) ≤ length (now output) + 8) ⌝ }
     ensures answer { λ r. ⌜ r ≡ spec.opening (oneTable (now (table .entry)) (now (words .entry)) rounds) (now (given .entry)) ⌝ }
     ensures written { λ r. ⌜ now (output .exit) ≡ openedOver (oneTable (now (table .entry)) (now (words .entry)) rounds) (now (given .entry)) (now (output .entry)) ⌝ }
 {
@@ -175,18 +162,12 @@ fn unwrap_into(
 
 // The registers at the end, then zeros.
 fn opened(table: &[u32; 256], words: &[u32; 60], rounds: usize, given: &[u8]) -> [u8; 72]
-    requires { ⌜ (8 ≤ length (now given)) × (length (now given) ≤ 72) × (length (now given) % 8 ≡ 0) ⌝ }
+    requires { ⌜ (24 ≤ length (now given)) × (length (now given) ≤ 72) × (length (now given) % 8 ≡ 0) ⌝ }
     ensures registers { λ r. ⌜ r ≡ padTo 72 (unwrapped (oneTable (now (table .entry)) (now (words .entry)) rounds) (now (given .entry))) ⌝ }
     ensures size { λ _. ⌜ length (unwrapped (oneTable (now (table .entry)) (now (words .entry)) rounds) (now (given .entry))) ≡ length (now (given .entry)) ⌝ }
 {
     let mut w = [0u8; 72];
     copy(given, &mut w, 0);
-    unpasses(
-        table,
-        words,
-        rounds,
-        given.len() / 8 - 1,
-        &mut w[0..given.len()],
-    );
+    unpasses(table, words, rounds, &mut w[0..given.len()]);
     w
 }

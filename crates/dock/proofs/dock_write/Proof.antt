@@ -1,6 +1,6 @@
 use mathlib.Core.Path.{ap, _∙_}
-use Rattle.image.specs.Calls.{writeNumber, writeOutput}
-use Rattle.image.specs.declared.WriteAnswer.{WriteAnswer}
+use Rattle.writer.specs.Calls.{writeNumber, writeOutput}
+use Rattle.writer.specs.declared.WriteAnswer.{WriteAnswer}
 use Rattle.dock.specs.Answers.{numbers}
 use borrow.Author.Needs.{needs}
 use Rattle.dock.proofs.dock_write.Statement.{statement}

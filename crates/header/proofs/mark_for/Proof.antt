@@ -1,4 +1,5 @@
-use Rattle.header.specs.Marks.{markOf, markFor}
+use Rattle.limits.specs.Marks.{markOf}
+use Rattle.header.specs.Rules.{markFor}
 use borrow.Author.Tests.{lt-ltb, le-ltb}
 use mathlib.Core.Path.{ap, _∙_}
 use borrow.Author.Needs.{needs}

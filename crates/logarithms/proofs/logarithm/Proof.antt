@@ -1,6 +1,6 @@
 use native.Mathlib.Omega.{arith}
 use Rattle.logarithms.specs.Tables.{lTable}
-use Rattle.logarithms.proofs.Arms.{last-byte}
+use Rattle.octets.proofs.Arms.{last-byte}
 use Rattle.logarithms.proofs.logarithm.Statement.{statement}
 use Rattle.logarithms.proofs.logarithm.Tie as tie
 

@@ -8,7 +8,7 @@ use native.Mathlib.Omega.{arith}
 use borrow.Author.Tests.{eqb-true, eqb-false, ltb-true, ltb-false, lt-ltb}
 use lib.Dec.{eqb, ltb}
 use lib.ListN.{length, getD, take, drop, length-append, List·getD-append}
-use lib.Seq.{drop-at, getD-append-add, length-take-le}
+use lib.Seq.{drop-at, length-take-le}
 use Rattle.octets.specs.Octets.{choose, Bytes, Octets}
 use Rattle.octets.specs.Blocks.{BlockCipher, Lawful}
 use Rattle.octets.proofs.Blocks.{take-bytes, append-bytes}
@@ -17,12 +17,12 @@ use Rattle.sp800_38b.specs.Cmac.{cmac, SameOutside}
 use Rattle.sp800_38b.proofs.OnePiece.{one-piece}
 use Rattle.layout.specs.Layout.{headOf}
 use Rattle.layout.specs.declared.Head.{Head}
-use Rattle.header.specs.Marks.{isEdition, selected, markOf, markFor}
+use Rattle.limits.specs.Marks.{isEdition, selected, markOf}
+use Rattle.header.specs.Rules.{markFor}
 use Rattle.header.specs.declared.Progress.{Progress}
-use Rattle.header.specs.declared.Verdict.the-variants.{Accepted}
 use Rattle.format.specs.Edition.{tailOf, edition}
 use Rattle.format.specs.Sealed.{sealed, checks}
-use Rattle.format.specs.Judge.{Keys, judge, always, either, ofBoth, fresh, taken}
+use Rattle.format.specs.Judge.{Keys, always, either, ofBoth, fresh, taken}
 use Rattle.turns.specs.Turn.{Reading, readBlocks}
 use Rattle.promises.proofs.ImageTerms.{Right, Met, Blocks}
 use Rattle.promises.proofs.Lemmas.ImageSealed.{sealed-size, sealed-bytes, sealed-checks}

@@ -20,24 +20,26 @@ use Rattle.fips197.specs.Cipher.{aesOf, standard}
 use Rattle.fips197.proofs.Aes.{aes-lawful, key-lawful}
 use Rattle.sp800_38b.specs.Cmac.{cmac}
 use Rattle.layout.specs.Layout.{headOf}
-use Rattle.header.specs.Marks.{isEdition}
-use Rattle.header.specs.Rules.{countFits, lengthFits}
+use Rattle.limits.specs.Fits.{countFits, lengthFits}
+use Rattle.limits.specs.Marks.{isEdition}
 use Rattle.header.specs.declared.Verdict.the-variants.{Accepted}
 use Rattle.layout.proofs.Laws.{Wide}
 use Rattle.format.specs.Edition.{tailOf, edition}
-use Rattle.format.specs.Sealed.{headFor, blockFor, opened}
+use Rattle.format.specs.Sealed.{headFor, opened}
 use Rattle.format.specs.Judge.{Keys, either, fresh, taken}
+use Rattle.format.specs.Lent.{bothTaken}
 use Rattle.turns.specs.Turn.{Reading, readBlocks, cut, handled, whole, blocksRead, turnUnder}
-use Rattle.image.specs.Calls.{lastFor, blockOf, bothTaken, writeRuled, writeAnswer, writeOutput, startedBy, startOf, keysOf, blocksBy, turnAfter, turnOf}
-use Rattle.turns.specs.declared.BlocksRead.{BlocksRead}
-use Rattle.image.specs.declared.WriteAnswer.the-variants.{Written, WriteKey, WriteCount, WriteNumber, WriteLength, WriteEdition, WriteRoom}
-use Rattle.image.specs.declared.Numbers.{Numbers}
+use Rattle.writer.specs.Calls.{lastFor, blockOf, writeRuled, writeAnswer, writeOutput}
+use Rattle.image.specs.Calls.{startedBy, startOf, keysOf, blocksBy, turnAfter, turnOf}
+use Rattle.tally.specs.declared.BlocksRead.{BlocksRead}
+use Rattle.writer.specs.declared.WriteAnswer.the-variants.{Written, WriteKey, WriteCount, WriteNumber, WriteLength, WriteEdition, WriteRoom}
+use Rattle.writer.specs.declared.Numbers.{Numbers}
 use Rattle.image.specs.declared.Reader.{Reader}
-use Rattle.turns.specs.declared.Stop.the-variants.{End, Asked, Lent, Room}
+use Rattle.tally.specs.declared.Stop.the-variants.{End, Asked, Lent, Room}
 use Rattle.image.specs.declared.Turn.{Turn}
 use Rattle.format.proofs.Editions.{tail-bytes}
-use Rattle.image.proofs.Calls.{last-bytes, last-size, mark-small}
-use Rattle.promises.proofs.ImageTerms.{Blocks, payload, Fit, WriteSays, inState, readingOf, given, Fair, StopSays}
+use Rattle.writer.proofs.Calls.{last-bytes, last-size, mark-small}
+use Rattle.promises.proofs.ImageTerms.{Blocks, Fit, WriteSays, inState, readingOf, given, Fair, StopSays}
 use Rattle.promises.proofs.Keys.{KeyTaken}
 use Rattle.promises.proofs.Lemmas.ImageSealed.{sealed-size}
 use Rattle.promises.proofs.Lemmas.ImageJudge.{and-true, fits-le, count-fits, fits-count}

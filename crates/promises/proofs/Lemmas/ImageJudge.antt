@@ -18,7 +18,8 @@ use Rattle.sp800_38a.specs.declared.Operation.the-variants.{CbcEncrypt, CbcDecr
 use Rattle.sp800_38a.proofs.Sixteen.{length-16, undone-16, bytes-16}
 use Rattle.sp800_38b.specs.Cmac.{cmac, SameOutside}
 use Rattle.layout.specs.Layout.{headOf}
-use Rattle.header.specs.Rules.{firstOf, closed, countFits, lengthFits, headTests}
+use Rattle.limits.specs.Fits.{countFits, lengthFits}
+use Rattle.header.specs.Rules.{firstOf, closed, headTests}
 use Rattle.layout.specs.declared.Head.{Head}
 use Rattle.header.specs.declared.Progress.{Progress}
 use Rattle.header.specs.declared.Reason.{Reason}

@@ -16,7 +16,8 @@ use Rattle.octets.specs.Blocks.{BlockCipher, Lawful}
 use Rattle.octets.proofs.Blocks.{take-bytes, append-bytes, length-nil}
 use Rattle.sp800_38b.specs.Cmac.{cmac}
 use Rattle.layout.specs.Layout.{headOf}
-use Rattle.header.specs.Rules.{done, lengthFits}
+use Rattle.limits.specs.Fits.{lengthFits}
+use Rattle.header.specs.Rules.{done}
 use Rattle.layout.specs.declared.Head.{Head}
 use Rattle.layout.proofs.Laws.{Wide}
 use Rattle.format.specs.Edition.{Edition, noCheck}
@@ -24,7 +25,7 @@ use Rattle.header.specs.declared.Progress.{Progress}
 use Rattle.format.specs.Sealed.{headFor, blockFor, sealed}
 use Rattle.format.specs.Judge.{Keys, Rule, always, either, byRule, ofBoth, fresh, taken}
 use Rattle.turns.specs.Turn.{Reading, readBlocks, blocksRead}
-use Rattle.turns.specs.declared.Stop.the-variants.{End}
+use Rattle.tally.specs.declared.Stop.the-variants.{End}
 use Rattle.image.specs.Calls.{keysOf, turnAfter, turnOf}
 use Rattle.image.specs.declared.Reader.{Reader}
 use Rattle.image.specs.declared.Turn.{Turn}

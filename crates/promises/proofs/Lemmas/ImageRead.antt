@@ -11,7 +11,7 @@ use Rattle.fips197.specs.Cipher.{aesOf}
 use Rattle.fips197.proofs.Aes.{key-lawful}
 use Rattle.sp800_38b.specs.Cmac.{cmac, SameOutside}
 use Rattle.layout.specs.Layout.{headOf}
-use Rattle.header.specs.Marks.{selected}
+use Rattle.limits.specs.Marks.{selected}
 use Rattle.header.specs.Rules.{done, closed}
 use Rattle.header.specs.declared.Reason.the-variants.{AfterLast, CheckWrong}
 use Rattle.layout.specs.declared.Head.{Head}
@@ -22,10 +22,11 @@ use Rattle.format.specs.Edition.{tailOf, edition}
 use Rattle.format.specs.Sealed.{filled, headFor, sealed, opened, checks}
 use Rattle.format.specs.Judge.{Keys, judge, either, ofBoth}
 use Rattle.turns.specs.Turn.{Reading, readBlocks, handled, blocksRead}
-use Rattle.image.specs.Calls.{lastFor, blockOf, keysOf, turnAfter}
-use Rattle.image.specs.declared.Numbers.{Numbers}
+use Rattle.writer.specs.Calls.{lastFor, blockOf}
+use Rattle.image.specs.Calls.{keysOf, turnAfter}
+use Rattle.writer.specs.declared.Numbers.{Numbers}
 use Rattle.image.specs.declared.Reader.{Reader}
-use Rattle.turns.specs.declared.Stop.the-variants.{End}
+use Rattle.tally.specs.declared.Stop.the-variants.{End}
 use Rattle.image.specs.declared.Turn.{Turn}
 use Rattle.promises.proofs.ImageTerms.{Met, SealedOn, readingOf, unchecked, Blocks, payload, plains, parts, lengths, AllFilled, partsIn, Fit, Wrote, readerOf, Waits, FromStart, Sound, given, Lending, AllFair, offered, readerAfter, AllAccepted, handedOut, counted, started, turn}
 use Rattle.promises.proofs.Lemmas.ImageSealed.{sealed-size, sealed-bytes, sealed-opened, sealed-head}

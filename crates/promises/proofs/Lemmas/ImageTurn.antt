@@ -16,8 +16,8 @@ use Rattle.header.specs.declared.Progress.{Progress}
 use Rattle.format.specs.Sealed.{opened}
 use Rattle.format.specs.Judge.{Keys, BlockReader, Rule, byRule, taken}
 use Rattle.turns.specs.Turn.{Reading, later, onward, readBlocks}
-use Rattle.turns.specs.declared.Stop.{Stop}
-use Rattle.turns.specs.declared.Stop.the-variants.{End, Asked, Lent, Room, At}
+use Rattle.tally.specs.declared.Stop.{Stop}
+use Rattle.tally.specs.declared.Stop.the-variants.{End, Asked, Lent, Room, At}
 use Rattle.promises.proofs.ImageTerms.{AllMet, Blocks, payload, plains, parts, lengths, AllFilled, partsIn, moved, laterBy, andThen}
 use Rattle.promises.proofs.Lemmas.ImageJudge.{accepted-met, met-accepted, opened-length, payload-length, payload-filled}
 

@@ -16,7 +16,8 @@ use Rattle.octets.proofs.Blocks.{take-bytes, drop-bytes, zeros-bytes, length-ni
 use Rattle.sp800_38a.specs.Pieces.{piece}
 use Rattle.sp800_38b.specs.Cmac.{cmac}
 use Rattle.layout.specs.Layout.{headOf}
-use Rattle.header.specs.Rules.{done, lengthFits}
+use Rattle.limits.specs.Fits.{lengthFits}
+use Rattle.header.specs.Rules.{done}
 use Rattle.layout.specs.declared.Head.{Head}
 use Rattle.header.specs.declared.Verdict.the-variants.{Accepted}
 use Rattle.layout.proofs.Laws.{Wide}
@@ -25,7 +26,7 @@ use Rattle.header.specs.declared.Progress.{Progress}
 use Rattle.format.specs.Sealed.{headFor, blockFor}
 use Rattle.format.specs.Judge.{Keys, Rule, always, byRule, fresh, taken}
 use Rattle.turns.specs.Turn.{Reading, later, readBlocks}
-use Rattle.turns.specs.declared.Stop.the-variants.{End}
+use Rattle.tally.specs.declared.Stop.the-variants.{End}
 use Rattle.promises.proofs.ImageTerms.{Proper, Right, Blocks, payload, parts, blocks, written, image}
 use Rattle.promises.proofs.Lemmas.ImageSealed.{filled-payload, sealed-size, sealed-bytes, sealed-opened, sealed-head}
 use Rattle.promises.proofs.Lemmas.ImageJudge.{sealed-accepted}

@@ -1,3 +1,7 @@
+use mathlib.Core.Path.{ap}
+use Prim.Native.Nat.{ℕ, _-_}
+use lib.Bits.{bitXor}
+use lib.ListN.{getD}
 use borrow.Author.Tests.{lt-ltb, le-ltb}
 use Rattle.octets.specs.Octets.{xor}
 use Rattle.schedule.specs.Schedule.{nextWord}
@@ -32,7 +36,9 @@ temp-requires c κs = search needs
 
 returns-2 : tie.Need-returns-2
 unfolding nextWord xor
-returns-2 c = simp (le-ltb _ _ (c .before .before .before .if1 .left)) (cc)
+returns-2 c =
+    let a = c .before .before .before .before .before .args in
+    simp (le-ltb _ _ (c .before .before .before .if1 .left)) (ap (λ (x : ℕ). bitXor (getD (a .words .now) (a .i - a .nk) 0) x) (c .temp .ensures))
 
 pub next-word-spec : {M : Type 1} → statement M
 next-word-spec =

@@ -1,3 +1,6 @@
+use mathlib.Core.Path.{ap, _∙_}
+use Prim.Native.Nat.{ℕ}
+use Rattle.octets.specs.Words.{word}
 use Rattle.schedule.specs.Schedule.{rCon}
 use borrow.Author.Needs.{needs}
 use Rattle.schedule.proofs.rcon.Statement.{statement}
@@ -14,7 +17,7 @@ join-requires c κs = search needs
 
 returns : tie.Need-returns
 unfolding rCon
-returns c = cc
+returns c = c .join .ensures ∙ ap (λ (x : ℕ). word x 0 0 0) (c .before .power-of-x .ensures)
 
 pub rcon-spec : {M : Type 1} → statement M
 rcon-spec = tie.close (tie.spec sub-power-of-x power-of-x-requires join-requires returns)

@@ -1,5 +1,9 @@
 use borrow.Author.Tests.{eq-eqb, ne-eqb, lt-ltb, le-ltb}
-use Rattle.octets.specs.Octets.{xor}
+use mathlib.Core.Path.{ap, ap₂, _∙_}
+use Prim.Native.Nat.{ℕ}
+use lib.Bits.{bitXor}
+use Rattle.octets.specs.Octets.{xor, entry}
+use Rattle.words.specs.Columns.{subWord}
 use Rattle.schedule.specs.Schedule.{temp}
 use Rattle.schedule.proofs.Laws.{quotient-pos}
 use borrow.Author.Needs.{needs}
@@ -23,7 +27,10 @@ rcon-requires c κs = quotient-pos (search needs) (search needs)
 
 returns : tie.Need-returns
 unfolding temp xor
-returns c = simp (eq-eqb _ _ (c .before .before .before .if1 .taken)) (cc)
+returns c =
+    let a = c .before .before .before .before .args in
+    simp (eq-eqb _ _ (c .before .before .before .if1 .taken))
+    (ap₂ bitXor (c .before .sub-word .ensures .whole ∙ ap (λ (x : ℕ). subWord (entry (a .sbox .now)) x) (c .before .before .rot-word .ensures)) (c .rcon .ensures))
 
 rem-if3 : tie.Need-rem-if3
 rem-if3 c = search needs

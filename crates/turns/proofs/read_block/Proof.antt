@@ -1,15 +1,12 @@
-use mathlib.Core.Path.{_≡_, sym, ap, _∙_}
-use Prim.Native.Nat.{ℕ}
-use mathlib.Core.List.{List}
+use mathlib.Core.Path.{sym, ap, _∙_}
 use Rattle.octets.specs.Octets.{entry}
 use Rattle.header.specs.declared.Verdict.{Verdict}
-use Rattle.format.specs.Judge.{ofBoth}
 use Rattle.format.specs.Lent.{lentKeys}
 use Rattle.format.specs.Sealed.{opened}
 use Rattle.format.proofs.Sizes.{encrypt-sized, decrypt-sized}
 use Rattle.format.proofs.Opening.{open-part}
 use Rattle.format.proofs.Judging.{verdict-read, head-read}
-use Rattle.turns.specs.Lent.{partAfter}
+use Rattle.turns.specs.Turn.{partAfter}
 use Rattle.turns.proofs.Blockwise.{check-is, stepped-by}
 use borrow.Author.Needs.{needs}
 use Rattle.turns.proofs.read_block.Statement.{statement}
@@ -22,7 +19,7 @@ load-requires : tie.Need-load-requires
 load-requires c κs = search needs
 
 step-requires : tie.Need-step-requires
-step-requires c κs = (c .before .before .before .before .pre .2, c .before .before .before .before .pre .3)
+step-requires c κs = search needs
 
 enum-told : tie.Need-enum-told
 enum-told c = search needs

@@ -11,10 +11,12 @@ use Rattle.format.specs.Judge.{either, ofBoth}
 use Rattle.format.specs.Lent.{lentKeys}
 use Rattle.format.proofs.Sizes.{encrypt-sized, decrypt-sized, opened-size}
 use Rattle.format.proofs.Judging.{accepted-next}
-use Rattle.turns.specs.Turn.{readBlocks, cut, blocksReadWith}
-use Rattle.turns.specs.declared.BlocksRead.{BlocksRead}
-use Rattle.turns.specs.declared.Stop.the-variants.{End}
-use Rattle.turns.proofs.Blockwise.{finish, finish-start, part-is, part-size, ahead, ahead-start, ahead-end, toGo, goes-on, step-keeps, step-within, step-less, step-ahead}
+use Rattle.tally.specs.Tally.{blocksReadWith}
+use Rattle.tally.proofs.Laws.{goes-on}
+use Rattle.turns.specs.Turn.{readBlocks, cut}
+use Rattle.tally.specs.declared.BlocksRead.{BlocksRead}
+use Rattle.tally.specs.declared.Stop.the-variants.{End}
+use Rattle.turns.proofs.Blockwise.{finish, finish-start, part-is, part-size, ahead, ahead-start, ahead-end, toGo, step-keeps, step-within, step-less, step-ahead}
 use borrow.Author.Needs.{needs}
 use native.Mathlib.Omega.{arith}
 use Rattle.turns.proofs.read_blocks.Statement.{statement}
@@ -87,8 +89,6 @@ read-block-requires c κs =
     let on = goes-on t (a .k) (sym (g .goes-on .ensures) ∙ i .if1 .taken) in (
       ap length (part-is (a .blocks .now) (t .accepted)) ∙ length-take-le 512 (drop (t .accepted * 512) (a .blocks .now)) (omega (arith, length-drop (t .accepted * 512) (a .blocks .now), s .pre .0, on .1)),
       part-size (l .output) (t .accepted * 480) (omega (arith, l .inv .1, s .pre .1, on .1)),
-      omega (arith, on .1, s .pre .2),
-      l .inv .2,
     )
 
 loop-less : tie.Need-loop-less Inv-loop μ-loop
@@ -108,7 +108,7 @@ loop-less c =
     let bytes : Bytes b = take-bytes (t .accepted * 512 + 512 - t .accepted * 512) (drop (t .accepted * 512) (a .blocks .now)) (drop-bytes (t .accepted * 512) (a .blocks .now) bl) in
     let room : t .accepted * 480 + 480 ≤ length (l .output) = omega (arith, l .inv .1, s .pre .1, on .1) in
     let plain = opened-size b size (k .enc) (encrypt-sized (entry (a .forth .now)) (a .ewords .now) (a .rounds .enc)) (decrypt-sized (entry (a .back .now)) (a .dwords .now) (a .rounds .enc)) in
-    step-less (ofBoth k) (a .blocks .now) (a .k) t (l .output) (on .0) (on .1) b (part-is (a .blocks .now) (t .accepted)) bytes plain room _ (rb .read-block .ensures .0) _ _ _ refl (rb .read-block .ensures .1) refl
+    step-less (ofBoth k) (a .blocks .now) (a .k) t (l .output) (on .0) (on .1) (s .pre .2) (l .inv .2) b (part-is (a .blocks .now) (t .accepted)) bytes plain room _ (rb .read-block .ensures .0) _ _ _ refl (rb .read-block .ensures .1) refl
 
 loop-again : tie.Need-loop-again Inv-loop μ-loop
 loop-again c =
@@ -127,11 +127,11 @@ loop-again c =
     let bytes : Bytes b = take-bytes (t .accepted * 512 + 512 - t .accepted * 512) (drop (t .accepted * 512) (a .blocks .now)) (drop-bytes (t .accepted * 512) (a .blocks .now) bl) in
     let room : t .accepted * 480 + 480 ≤ length (l .output) = omega (arith, l .inv .1, s .pre .1, on .1) in
     let plain = opened-size b size (k .enc) (encrypt-sized (entry (a .forth .now)) (a .ewords .now) (a .rounds .enc)) (decrypt-sized (entry (a .back .now)) (a .dwords .now) (a .rounds .enc)) in
-    let within = step-within (ofBoth k) (a .blocks .now) (a .k) t (l .output) (on .0) (on .1) b (part-is (a .blocks .now) (t .accepted)) bytes plain room _ (rb .read-block .ensures .0) _ _ _ refl (rb .read-block .ensures .1) refl (l .inv .2) in (
+    let within = step-within (ofBoth k) (a .blocks .now) (a .k) t (l .output) (on .0) (on .1) (s .pre .2) (l .inv .2) b (part-is (a .blocks .now) (t .accepted)) bytes plain room _ (rb .read-block .ensures .0) _ _ _ refl (rb .read-block .ensures .1) refl in (
       within .0,
-      step-keeps (ofBoth k) (a .blocks .now) (a .k) t (l .output) (on .0) (on .1) b (part-is (a .blocks .now) (t .accepted)) bytes plain room _ (rb .read-block .ensures .0) _ _ _ refl (rb .read-block .ensures .1) refl ∙ l .inv .1,
+      step-keeps (ofBoth k) (a .blocks .now) (a .k) t (l .output) (on .0) (on .1) (s .pre .2) (l .inv .2) b (part-is (a .blocks .now) (t .accepted)) bytes plain room _ (rb .read-block .ensures .0) _ _ _ refl (rb .read-block .ensures .1) refl ∙ l .inv .1,
       within .1,
-      step-ahead (ofBoth k) (a .blocks .now) (a .k) t (l .output) (on .0) (on .1) b (part-is (a .blocks .now) (t .accepted)) bytes plain room _ (rb .read-block .ensures .0) _ _ _ refl (rb .read-block .ensures .1) refl (accepted-next k (either (t .progress) (headOf b .reserved)) (t .progress) b) ∙ l .inv .3,
+      step-ahead (ofBoth k) (a .blocks .now) (a .k) t (l .output) (on .0) (on .1) (s .pre .2) (l .inv .2) b (part-is (a .blocks .now) (t .accepted)) bytes plain room _ (rb .read-block .ensures .0) _ _ _ refl (rb .read-block .ensures .1) refl (accepted-next k (either (t .progress) (headOf b .reserved)) (t .progress) b) ∙ l .inv .3,
     )
 
 same-length : tie.Need-same-length Inv-loop μ-loop

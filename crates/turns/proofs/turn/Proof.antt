@@ -1,7 +1,7 @@
 use Rattle.turns.proofs.Calls.{turn-asked, turn-lent, turn-room, turn-read, asked-most}
 use Rattle.format.proofs.Judging.{flip}
 use Rattle.turns.specs.Turn.{keysUnder}
-use Rattle.turns.specs.declared.BlocksRead.{BlocksRead}
+use Rattle.tally.specs.declared.BlocksRead.{BlocksRead}
 use borrow.Author.Tests.{eq-eqb, ne-eqb, lt-ltb, le-ltb}
 use lib.ListN.{length}
 use native.Mathlib.Nat.{min-le-left, min-le-right}

@@ -1,4 +1,6 @@
 use Rattle.words.specs.Columns.{diagonal}
+use mathlib.Core.Path.{_∙_}
+use Rattle.words.proofs.Rotate.{same-word}
 use borrow.Author.Needs.{needs}
 use Rattle.words.proofs.sub_column.Statement.{statement}
 use Rattle.words.proofs.sub_column.Tie as tie
@@ -20,7 +22,12 @@ packed-requires c κs = search needs
 
 returns : tie.Need-returns
 unfolding diagonal
-returns c = cc
+returns c =
+    let p = c .before .before .before .before .middle-at .ensures in
+    let q = c .before .before .before .middle-at2 .ensures in
+    let u = c .before .before .middle-at3 .ensures in
+    let v = c .before .middle-at4 .ensures in
+    c .packed .ensures ∙ same-word (p .0) (q .0) (u .0) (v .0)
 
 pub sub-column-spec : {M : Type 1} → statement M
 sub-column-spec =

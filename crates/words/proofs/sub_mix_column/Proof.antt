@@ -1,4 +1,6 @@
+use mathlib.Core.Path.{ap, ap₂, _∙_}
 use Rattle.words.specs.Columns as spec
+use Rattle.words.specs.Columns.{rotWord, rotTwo, rotThree}
 use Rattle.octets.specs.Octets.{xor}
 use borrow.Author.Needs.{needs}
 use Rattle.words.proofs.sub_mix_column.Statement.{statement}
@@ -27,7 +29,12 @@ rot-word-requires c κs = search needs
 
 returns : tie.Need-returns
 unfolding spec.subMixColumn xor
-returns c = cc
+returns c =
+    let p = c .before .before .before .before .before .before .word-at .ensures in
+    let q = c .before .before .before .before .rot-three .ensures ∙ ap rotThree (c .before .before .before .before .before .word-at2 .ensures) in
+    let u = c .before .before .rot-two .ensures ∙ ap rotTwo (c .before .before .before .word-at3 .ensures) in
+    let v = c .rot-word .ensures ∙ ap rotWord (c .before .word-at4 .ensures) in
+    ap₂ xor (ap₂ xor p q) (ap₂ xor u v)
 
 pub sub-mix-column-spec : {M : Type 1} → statement M
 sub-mix-column-spec =

@@ -1,6 +1,7 @@
+use mathlib.Core.Path.{_∙_}
 use denote.Ref.{now}
 use Rattle.octets.specs.Octets.{entry}
-use Rattle.words.proofs.Rotate.{is-diagonal}
+use Rattle.words.proofs.Rotate.{is-diagonal, same-word}
 use Rattle.words.specs.Columns.{diagonal}
 use borrow.Author.Needs.{needs}
 use Rattle.words.proofs.sub_word.Statement.{statement}
@@ -29,7 +30,7 @@ returns c =
     let q = c .before .before .before .looked-up2 .ensures in
     let u = c .before .before .looked-up3 .ensures in
     let v = c .before .looked-up4 .ensures in
-    is-diagonal (entry (now (a .table))) (a .x) (a .x) (a .x) (a .x) _ (rw (p .0) at (p .1)) (rw (q .0) at (q .1)) (rw (u .0) at (u .1)) (rw (v .0) at (v .1)) (cc)
+    is-diagonal (entry (now (a .table))) (a .x) (a .x) (a .x) (a .x) _ (rw (p .0) at (p .1)) (rw (q .0) at (q .1)) (rw (u .0) at (u .1)) (rw (v .0) at (v .1)) (c .packed .ensures ∙ same-word (p .0) (q .0) (u .0) (v .0))
 
 pub sub-word-spec : {M : Type 1} → statement M
 sub-word-spec =

@@ -1,4 +1,4 @@
-use Rattle.wrap.proofs.Sizes.{wrapped-size-parts}
+use Rattle.registers.proofs.Sizes.{wrapped-size-parts}
 use mathlib.Core.Path.{sym, _∙_}
 use borrow.Author.Tests.{lt-ltb, le-ltb, not-true, not-false}
 use Rattle.wrap.specs.Calls.{wrapRuled}

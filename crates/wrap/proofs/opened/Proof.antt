@@ -18,9 +18,6 @@ copy-requires c κs = search needs
 sub-unpasses : tie.Need-sub-unpasses
 sub-unpasses c = search needs
 
-sub-unpasses-2 : tie.Need-sub-unpasses-2
-sub-unpasses-2 c = search needs
-
 part-w-start : tie.Need-part-w-start
 part-w-start c = search needs
 
@@ -37,8 +34,8 @@ returns c =
     let s = c .before .before .before .before .before .before .before in
     let a = s .args in
     let k = oneTable (a .table .now) (a .words .now) (a .rounds) in (
-      opened-by k (a .given .now) (length (a .given .now) - 0) (omega arith) _ _ _ (cp .ensures ∙ copied-fits (a .given .now) 0 _ (omega (arith, s .pre .1))) (u .ensures) (u .kept .1 .1 .1 .1 .0) refl,
-      opened-size k (a .given .now) (length (a .given .now) - 0) (omega arith) _ _ _ (cp .ensures ∙ copied-fits (a .given .now) 0 _ (omega (arith, s .pre .1))) (u .ensures) (u .kept .1 .1 .1 .1 .0) refl,
+      opened-by k (a .given .now) (s .pre .0) (s .pre .1) (s .pre .2) (length (a .given .now) - 0) (omega arith) _ _ _ (cp .ensures ∙ copied-fits (a .given .now) 0 _ (omega (arith, s .pre .1))) (u .ensures) (u .kept .1 .1 .1 .0) refl,
+      opened-size k (a .given .now) (s .pre .0) (s .pre .1) (s .pre .2) (length (a .given .now) - 0) (omega arith) _ _ _ (cp .ensures ∙ copied-fits (a .given .now) 0 _ (omega (arith, s .pre .1))) (u .ensures) (u .kept .1 .1 .1 .0) refl,
     )
 
 pub opened-spec : {M : Type 1} → statement M
@@ -48,7 +45,6 @@ opened-spec =
     slice-aggregate-copy
     copy-requires
     sub-unpasses
-    sub-unpasses-2
     part-w-start
     part-w-end
     unpasses-requires

@@ -1,9 +1,10 @@
 use Rattle.lookups.proofs.Steps.{table-none, table-next}
-use Rattle.lookups.specs.Lookups.{tableRounds}
+use Rattle.lookups.specs.Lookups.{addKeyWords, subShiftMix, tableRounds}
+use Rattle.lookups.specs.declared.Columns.{Columns}
 use Rattle.octets.specs.Octets.{entry}
 use denote.Ref.{now}
-use Prim.Native.Nat.{_+_, _-_, _≤_, _<_}
-use mathlib.Core.Path.{_≡_}
+use Prim.Native.Nat.{ℕ, _+_, _-_, _≤_, _<_}
+use mathlib.Core.Path.{_≡_, sym, ap, ap₂, _∙_}
 use borrow.Author.Needs.{needs}
 use native.Mathlib.Omega.{arith}
 use Rattle.rounds.proofs.loops.all_but_last.Statement.{statement}
@@ -35,13 +36,23 @@ loop-less c = search needs
 
 loop-again : tie.Need-loop-again Inv-loop μ-loop
 loop-again c =
+    let l = c .before .before .before .loop in
     let a = c .before .before .before .before .before .args in
-    let n = c .before .before .before .loop .n in
-    let back : n + 1 - 1 ≡ n = omega arith in
-    (search needs, cc (table-next (entry (now (a .table))) (now (a .words)) (c .before .before .before .before .add-round-key .result) n (search needs)))
+    let t = entry (now (a .table)) in
+    let w = now (a .words) in
+    let s = c .before .before .before .before .add-round-key .result in
+    let back : l .n + 1 - 1 ≡ l .n = omega arith in (
+      search needs,
+      c .add-round-key2 .ensures ∙ ap (addKeyWords w (l .n)) (c .before .sub-shift-mix .ensures ∙ ap (subShiftMix t) (l .inv .1))
+          ∙ sym (table-next t w s (l .n) (search needs)) ∙ ap (λ (i : ℕ). tableRounds t w i s) (sym back),
+    )
 
 returns : tie.Need-returns Inv-loop μ-loop
-returns c = let e : c .before .loop .n ≡ c .before .before .before .args .rounds = omega arith in cc
+returns c =
+    let l = c .before .loop in
+    let a = c .before .before .before .args in
+    let e : l .n ≡ a .rounds = omega arith in
+    l .inv .1 ∙ ap₂ (λ (i : ℕ) (x : Columns). tableRounds (entry (now (a .table))) (now (a .words)) (i - 1) x) e (c .before .before .add-round-key .ensures)
 
 pub all-but-last-spec : {M : Type 1} → statement M
 all-but-last-spec =

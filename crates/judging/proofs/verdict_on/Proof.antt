@@ -1,0 +1,146 @@
+use mathlib.Core.Path.{_≡_, sym, ap, _∙_}
+use Prim.Native.Nat.{ℕ}
+use lib.ListN.{length}
+use Rattle.limits.specs.Marks.{selected, tailSize}
+use Rattle.format.specs.Lent.{lentKeys}
+use Rattle.format.proofs.Sizes.{mac-sized}
+use Rattle.format.proofs.Editions.{tail-part, tail-size-most}
+use Rattle.format.proofs.Judging.{flip, both-last, both-check, both-head, both-fill, both-passed}
+use native.Mathlib.Omega.{arith}
+use borrow.Author.Needs.{needs, length-unmapped}
+use Rattle.judging.proofs.verdict_on.Statement.{statement}
+use Rattle.judging.proofs.verdict_on.Tie as tie
+
+closed-requires : tie.Need-closed-requires
+closed-requires c κs = search needs
+
+returns : tie.Need-returns
+returns c =
+    let s = c .before .before .before in
+    let a = s .args in
+    both-last (lentKeys (a .forth .now) (a .back .now) (a .ewords .now) (a .dwords .now) (a .cwords .now) (a .key1 .now) (a .key2 .now) (a .rounds)) (mac-sized (a .forth .now) (a .cwords .now) (a .rounds .chk) (a .key1 .now) (a .key2 .now))
+    (a .progress) (a .block .now) (a .head) (s .pre) (sym (c .before .closed .ensures) ∙ c .if1 .taken)
+
+selected-requires : tie.Need-selected-requires
+selected-requires c κs = search needs
+
+tail-size-requires : tie.Need-tail-size-requires
+tail-size-requires c κs = search needs
+
+sub-check-holds : tie.Need-sub-check-holds
+sub-check-holds c = search needs
+
+part-check-holds-start : tie.Need-part-check-holds-start
+part-check-holds-start c = search needs
+
+part-check-holds-end : tie.Need-part-check-holds-end
+part-check-holds-end c =
+    let d = c .before .before .before .before in
+    let s = d .before .before .before in
+    let g : length (s .args .progress .last) ≡ 16 = length-unmapped ℕ (s .args .progress .last) 16 (s .good .1 .1 .1 .1 .1 .1 .1 .1 .0 .1 .1 .1 .1 .1 .1 .0 .1 .0 .1) in
+    omega (arith, c .before .tail-size .ensures, tail-size-most (c .before .before .selected .result), g)
+
+check-holds-requires : tie.Need-check-holds-requires
+check-holds-requires c κs = search needs
+
+returns-2 : tie.Need-returns-2
+returns-2 c =
+    let m = c .before in
+    let ts = m .before .before .before in
+    let d = ts .before .before .before in
+    let s = d .before .before .before in
+    let a = s .args in
+    let more = sym (d .before .closed .ensures) ∙ d .if1 .left in
+    let l : length (a .progress .last) ≡ 16 = length-unmapped ℕ (a .progress .last) 16 (s .good .1 .1 .1 .1 .1 .1 .1 .1 .0 .1 .1 .1 .1 .1 .1 .0 .1 .0 .1) in
+    let et = tail-part (selected (a .head .reserved)) (ts .tail-size .result) (a .progress .last) l (ts .tail-size .ensures ∙ ap tailSize (ts .before .selected .ensures)) in
+    both-check (lentKeys (a .forth .now) (a .back .now) (a .ewords .now) (a .dwords .now) (a .cwords .now) (a .key1 .now) (a .key2 .now) (a .rounds)) (mac-sized (a .forth .now) (a .cwords .now) (a .rounds .chk) (a .key1 .now) (a .key2 .now))
+    (a .progress) (a .block .now) (a .head) (s .pre) more _ et (sym (m .check-holds .ensures) ∙ flip _ (c .if2 .taken))
+
+mark-for-requires : tie.Need-mark-for-requires
+mark-for-requires c κs = search needs
+
+judge-head-requires : tie.Need-judge-head-requires
+judge-head-requires c κs = search needs
+
+enum-told : tie.Need-enum-told
+enum-told c = search needs
+
+enum-told-2 : tie.Need-enum-told-2
+enum-told-2 c = search needs
+
+returns-3 : tie.Need-returns-3
+returns-3 c =
+    let h = c .before .before in
+    let i = h .before .before in
+    let m = i .before in
+    let ts = m .before .before .before in
+    let d = ts .before .before .before in
+    let s = d .before .before .before in
+    let a = s .args in
+    let more = sym (d .before .closed .ensures) ∙ d .if1 .left in
+    let l : length (a .progress .last) ≡ 16 = length-unmapped ℕ (a .progress .last) 16 (s .good .1 .1 .1 .1 .1 .1 .1 .1 .0 .1 .1 .1 .1 .1 .1 .0 .1 .0 .1) in
+    let et = tail-part (selected (a .head .reserved)) (ts .tail-size .result) (a .progress .last) l (ts .tail-size .ensures ∙ ap tailSize (ts .before .selected .ensures)) in
+    both-head (lentKeys (a .forth .now) (a .back .now) (a .ewords .now) (a .dwords .now) (a .cwords .now) (a .key1 .now) (a .key2 .now) (a .rounds)) (mac-sized (a .forth .now) (a .cwords .now) (a .rounds .chk) (a .key1 .now) (a .key2 .now))
+    (a .progress) (a .block .now) (a .head) (s .pre) more _ et (sym (m .check-holds .ensures) ∙ flip _ (i .if2 .left)) _ (h .before .mark-for .ensures) _ _ (h .judge-head .ensures) (c .enum-told2 .given .1)
+
+cast-len : tie.Need-cast-len
+cast-len c = search needs
+
+fill-is-zero-requires : tie.Need-fill-is-zero-requires
+fill-is-zero-requires c κs = search needs
+
+returns-4 : tie.Need-returns-4
+returns-4 c =
+    let t = c .before .before .before in
+    let h = t .before .before in
+    let i = h .before .before in
+    let m = i .before in
+    let ts = m .before .before .before in
+    let d = ts .before .before .before in
+    let s = d .before .before .before in
+    let a = s .args in
+    let more = sym (d .before .closed .ensures) ∙ d .if1 .left in
+    let l : length (a .progress .last) ≡ 16 = length-unmapped ℕ (a .progress .last) 16 (s .good .1 .1 .1 .1 .1 .1 .1 .1 .0 .1 .1 .1 .1 .1 .1 .0 .1 .0 .1) in
+    let et = tail-part (selected (a .head .reserved)) (ts .tail-size .result) (a .progress .last) l (ts .tail-size .ensures ∙ ap tailSize (ts .before .selected .ensures)) in
+    both-fill (lentKeys (a .forth .now) (a .back .now) (a .ewords .now) (a .dwords .now) (a .cwords .now) (a .key1 .now) (a .key2 .now) (a .rounds)) (mac-sized (a .forth .now) (a .cwords .now) (a .rounds .chk) (a .key1 .now) (a .key2 .now))
+    (a .progress) (a .block .now) (a .head) (s .pre) more _ et (sym (m .check-holds .ensures) ∙ flip _ (i .if2 .left)) _ (h .before .mark-for .ensures) (sym (t .enum-told .given .1) ∙ h .judge-head .ensures) (sym (c .before .fill-is-zero .ensures) ∙ flip _ (c .if3 .taken))
+
+returns-5 : tie.Need-returns-5
+returns-5 c =
+    let t = c .before .before .before in
+    let h = t .before .before in
+    let i = h .before .before in
+    let m = i .before in
+    let ts = m .before .before .before in
+    let d = ts .before .before .before in
+    let s = d .before .before .before in
+    let a = s .args in
+    let more = sym (d .before .closed .ensures) ∙ d .if1 .left in
+    let l : length (a .progress .last) ≡ 16 = length-unmapped ℕ (a .progress .last) 16 (s .good .1 .1 .1 .1 .1 .1 .1 .1 .0 .1 .1 .1 .1 .1 .1 .0 .1 .0 .1) in
+    let et = tail-part (selected (a .head .reserved)) (ts .tail-size .result) (a .progress .last) l (ts .tail-size .ensures ∙ ap tailSize (ts .before .selected .ensures)) in
+    t .enum-told .given .1
+    ∙ both-passed (lentKeys (a .forth .now) (a .back .now) (a .ewords .now) (a .dwords .now) (a .cwords .now) (a .key1 .now) (a .key2 .now) (a .rounds)) (mac-sized (a .forth .now) (a .cwords .now) (a .rounds .chk) (a .key1 .now) (a .key2 .now))
+    (a .progress) (a .block .now) (a .head) (s .pre) more _ et (sym (m .check-holds .ensures) ∙ flip _ (i .if2 .left)) _ (h .before .mark-for .ensures) (sym (t .enum-told .given .1) ∙ h .judge-head .ensures) (sym (c .before .fill-is-zero .ensures) ∙ flip _ (c .if3 .left))
+
+pub verdict-on-spec : {M : Type 1} → statement M
+verdict-on-spec =
+    tie.close
+    (tie.spec
+    closed-requires
+    returns
+    selected-requires
+    tail-size-requires
+    sub-check-holds
+    part-check-holds-start
+    part-check-holds-end
+    check-holds-requires
+    returns-2
+    mark-for-requires
+    judge-head-requires
+    enum-told
+    enum-told-2
+    returns-3
+    cast-len
+    fill-is-zero-requires
+    returns-4
+    returns-5)

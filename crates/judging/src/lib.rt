@@ -1,0 +1,86 @@
+// The verdict on a block of an image, with the tables and schedules lent that its ciphers look up in.
+use blocks::load;
+use checking::check_holds;
+use format::Judged;
+use format::Rounds;
+use header::Progress;
+use header::Reason;
+use header::Verdict;
+use header::judge_head;
+use header::mark_for;
+use layout::Head;
+use layout::head_of;
+use limits::selected;
+use limits::tail_size;
+use opening::fill_is_zero;
+ghost use mathlib.Core.Path.{_≡_};
+ghost use Rattle.format.specs.Judge.{ofBoth};
+ghost use Rattle.format.specs.Lent.{lentKeys, headRead, judged};
+
+// The verdict of a reader of both editions on a block, and its header. Nothing is opened for it: the fill's test decrypts piece by piece.
+pub fn judge(
+    forth: &[u32; 256],
+    back: &[u32; 256],
+    ewords: &[u32; 60],
+    dwords: &[u32; 60],
+    cwords: &[u32; 60],
+    key1: &[u8; 16],
+    key2: &[u8; 16],
+    rounds: Rounds,
+    progress: Progress,
+    block: &[u8],
+) -> Judged
+    ensures { λ r. ⌜ r ≡ judged (lentKeys (now (forth .entry)) (now (back .entry)) (now (ewords .entry)) (now (dwords .entry)) (now (cwords .entry)) (now (key1 .entry)) (now (key2 .entry)) rounds) progress (now (block .entry)) ⌝ }
+{
+    let head = head_of(load(block, 0));
+    let verdict = verdict_on(
+        forth,
+        back,
+        ewords,
+        dwords,
+        cwords,
+        key1,
+        key2,
+        rounds,
+        progress,
+        head,
+        block,
+    );
+    Judged { verdict, head }
+}
+
+// The tests in their order, with the header that the block has.
+fn verdict_on(
+    forth: &[u32; 256],
+    back: &[u32; 256],
+    ewords: &[u32; 60],
+    dwords: &[u32; 60],
+    cwords: &[u32; 60],
+    key1: &[u8; 16],
+    key2: &[u8; 16],
+    rounds: Rounds,
+    progress: Progress,
+    head: Head,
+    block: &[u8],
+) -> Verdict
+    requires { ⌜ head ≡ headRead (now block) ⌝ }
+    ensures { λ r. ⌜ r ≡ ofBoth (lentKeys (now (forth .entry)) (now (back .entry)) (now (ewords .entry)) (now (dwords .entry)) (now (cwords .entry)) (now (key1 .entry)) (now (key2 .entry)) rounds) .verdict progress (now (block .entry)) ⌝ }
+{
+    if header::closed(progress) {
+        return Verdict::Refused(Reason::AfterLast);
+    }
+    let last = progress.last;
+    let covered = tail_size(selected(head.reserved));
+    if !check_holds(forth, cwords, key1, key2, rounds, &last[0..covered], block) {
+        return Verdict::Refused(Reason::CheckWrong);
+    }
+    let verdict = judge_head(progress, head, mark_for(progress, head.reserved));
+    let Verdict::Accepted = verdict else {
+        return verdict;
+    };
+    let len = head.len as usize;
+    if !fill_is_zero(forth, back, ewords, dwords, rounds.enc, block, len) {
+        return Verdict::Refused(Reason::FillNotZero);
+    }
+    verdict
+}

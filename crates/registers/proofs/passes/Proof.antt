@@ -1,0 +1,89 @@
+use mathlib.Core.Path.{_≡_, refl, sym, ap, _∙_}
+use Prim.Native.Nat.{ℕ, _-_, _/_, _≤_}
+use lib.ListN.{length}
+use borrow.Author.Tests.{not-true, not-false}
+use Rattle.lookups.specs.Lookups.{oneTable}
+use Rattle.registers.specs.Wrap.{pass, passes}
+use Rattle.registers.proofs.Sizes.{wrapped-size-parts, passed-right, passed-wrong}
+use Rattle.registers.proofs.Passing.{passes-none, passes-more}
+use borrow.Author.Needs.{needs}
+use native.Mathlib.Omega.{arith}
+use Rattle.registers.proofs.passes.Statement.{statement}
+use Rattle.registers.proofs.passes.Tie as tie
+
+abbrev Inv-loop : tie.InvT-loop
+Inv-loop table words rounds w₀ n j₀ w j = (j ≤ 6) × (length w ≡ length w₀) × (w ≡ passes (oneTable table words rounds) n j w₀)
+
+abbrev μ-loop : tie.MeasureT-loop
+μ-loop table words rounds w₀ n j₀ w j = 6 - j
+
+wrapped-size-fits-requires : tie.Need-wrapped-size-fits-requires Inv-loop μ-loop
+wrapped-size-fits-requires c κs = search needs
+
+returns : tie.Need-returns Inv-loop μ-loop
+returns c =
+    let a = c .before .before .before .args in
+    passed-wrong (oneTable (a .table .now) (a .words .now) (a .rounds)) (a .w .now) (sym (c .before .wrapped-size-fits .ensures) ∙ not-true _ (c .if1 .taken))
+
+sub-n : tie.Need-sub-n Inv-loop μ-loop
+sub-n c =
+    let h = wrapped-size-parts (length (c .before .before .before .args .w .now)) (sym (c .before .wrapped-size-fits .ensures) ∙ not-false _ (c .if1 .left)) in
+    omega (arith, h .0)
+
+loop-holds : tie.Need-loop-holds Inv-loop μ-loop
+loop-holds c =
+    let a = c .before .before .before .args in
+    (omega arith, refl, passes-none (oneTable (a .table .now) (a .words .now) (a .rounds)) (length (a .w .now) / 8 - 1) (a .w .now))
+
+pass-requires : tie.Need-pass-requires Inv-loop μ-loop
+pass-requires c κs =
+    let i = c .before .before .before in
+    let h = wrapped-size-parts (length (i .before .before .before .args .w .now)) (sym (i .before .wrapped-size-fits .ensures) ∙ not-false _ (i .if1 .left)) in
+    (omega (arith, h .0, h .2), omega (arith, h .1), omega arith)
+
+add-j : tie.Need-add-j Inv-loop μ-loop
+add-j c = search needs
+
+loop-less : tie.Need-loop-less Inv-loop μ-loop
+loop-less c = search needs
+
+loop-again : tie.Need-loop-again Inv-loop μ-loop
+loop-again c =
+    let l = c .before .before .before .before .before .loop in
+    let a = c .before .before .before .before .before .before .before .before .before .args in
+    let k = oneTable (a .table .now) (a .words .now) (a .rounds) in
+    let n = length (a .w .now) / 8 - 1 in (
+      omega arith,
+      search needs,
+      c .before .before .pass .ensures ∙ ap (pass k n (l .j) n) (l .inv .2) ∙ sym (passes-more k n (a .w .now) (l .j)),
+    )
+
+same-length : tie.Need-same-length Inv-loop μ-loop
+same-length c = search needs
+
+returns-2 : tie.Need-returns-2 Inv-loop μ-loop
+returns-2 c =
+    let l = c .before .loop in
+    let i = c .before .before in
+    let a = i .before .before .before .args in
+    let k = oneTable (a .table .now) (a .words .now) (a .rounds) in
+    let n = length (a .w .now) / 8 - 1 in
+    let e : l .j ≡ 6 = omega arith in
+    l .inv .2 ∙ ap (λ (x : ℕ). passes k n x (a .w .now)) e ∙ passed-right k (a .w .now) (sym (i .before .wrapped-size-fits .ensures) ∙ not-false _ (i .if1 .left))
+
+pub passes-spec : {M : Type 1} → statement M
+passes-spec =
+    tie.close
+    (tie.spec
+    Inv-loop
+    μ-loop
+    wrapped-size-fits-requires
+    returns
+    sub-n
+    loop-holds
+    pass-requires
+    add-j
+    loop-less
+    loop-again
+    same-length
+    returns-2)

@@ -1,0 +1,114 @@
+// The registers A, R[1] to R[n] of the key wrap, through the steps of RFC 3394, 2.2.1 and 2.2.2 in their index form, in place.
+mod halves;
+
+use crate::halves::counted;
+use crate::halves::pair;
+use crate::halves::put_back;
+use rounds::decrypt_block;
+use rounds::encrypt_block;
+ghost use mathlib.Core.Path.{_≡_};
+ghost use Prim.Native.Nat.{_+_, _*_, _≤_, _<_};
+ghost use lib.ListN.{length};
+ghost use Rattle.octets.specs.Octets.{same};
+ghost use Rattle.lookups.specs.Lookups.{oneTable};
+ghost use Rattle.registers.specs.Wrap as spec;
+ghost use Rattle.registers.specs.Sizes.{wrappedSizeFits, passedOver, unpassedOver};
+
+// Whether wrapped data, and so the registers together, may have this length.
+pub fn wrapped_size_fits(len: usize) -> bool
+    ensures { λ r. ⌜ r ≡ wrappedSizeFits len ⌝ }
+{
+    if len < 24 {
+        return false;
+    }
+    if len > 72 {
+        return false;
+    }
+    len % 8 == 0
+}
+
+// Whether A is the initial value, in all its eight bytes.
+pub fn is_initial(w: &[u8]) -> bool
+    ensures { λ r. ⌜ r ≡ same (spec.register (now (w .entry)) 0) spec.initial ⌝ }
+{
+    if w.len() < 8 {
+        return false;
+    }
+    for at in 0..8 {
+        if w[at] != 0xa6 {
+            return false;
+        }
+    }
+    true
+}
+
+// For j = 0 to 5. Registers of no size in the rule stay as they are.
+pub fn passes(table: &[u32; 256], words: &[u32; 60], rounds: usize, w: &mut [u8])
+    ensures { λ _. ⌜ now (w .exit) ≡ passedOver (oneTable (now (table .entry)) (now (words .entry)) rounds) (now (w .entry)) ⌝ }
+{
+    if !wrapped_size_fits(w.len()) {
+        return;
+    }
+    let n = w.len() / 8 - 1;
+    for j in 0..6 {
+        pass(table, words, rounds, n, j, w);
+    }
+}
+
+// For i = 1 to n, with t = n j + i.
+fn pass(table: &[u32; 256], words: &[u32; 60], rounds: usize, n: usize, j: usize, w: &mut [u8])
+    requires { ⌜ (length (now w) ≡ 8 * n + 8) × (n ≤ 8) × (j < 6) ⌝ }
+    ensures { λ _. ⌜ now (w .exit) ≡ spec.pass (oneTable (now (table .entry)) (now (words .entry)) rounds) n j n (now (w .entry)) ⌝ }
+{
+    for m in 0..n {
+        let i = m + 1;
+        step(table, words, rounds, n * j + i, i, w);
+    }
+}
+
+// B = AES(K, A | R[i]), then A = MSB(64, B) ^ t and R[i] = LSB(64, B).
+fn step(table: &[u32; 256], words: &[u32; 60], rounds: usize, t: usize, i: usize, w: &mut [u8])
+    requires { ⌜ (1 ≤ i) × (8 * i + 8 ≤ length (now w)) × (t < 256) ⌝ }
+    ensures { λ _. ⌜ now (w .exit) ≡ spec.step (oneTable (now (table .entry)) (now (words .entry)) rounds) t i (now (w .entry)) ⌝ }
+{
+    let given = pair(w, i);
+    let made = encrypt_block(table, words, rounds, given);
+    put_back(w, i, counted(made, t));
+}
+
+// For j = 5 to 0. Registers of no size in the rule stay as they are.
+pub fn unpasses(table: &[u32; 256], words: &[u32; 60], rounds: usize, w: &mut [u8])
+    ensures { λ _. ⌜ now (w .exit) ≡ unpassedOver (oneTable (now (table .entry)) (now (words .entry)) rounds) (now (w .entry)) ⌝ }
+{
+    if !wrapped_size_fits(w.len()) {
+        return;
+    }
+    let n = w.len() / 8 - 1;
+    let mut j = 6;
+    while j > 0 {
+        j -= 1;
+        unpass(table, words, rounds, n, j, w);
+    }
+}
+
+// For i = n to 1, with t = n j + i.
+fn unpass(table: &[u32; 256], words: &[u32; 60], rounds: usize, n: usize, j: usize, w: &mut [u8])
+    requires { ⌜ (length (now w) ≡ 8 * n + 8) × (n ≤ 8) × (j < 6) ⌝ }
+    ensures { λ _. ⌜ now (w .exit) ≡ spec.unpass (oneTable (now (table .entry)) (now (words .entry)) rounds) n j n (now (w .entry)) ⌝ }
+{
+    let mut i = n;
+    while i > 0 {
+        unstep(table, words, rounds, n * j + i, i, w);
+        i -= 1;
+    }
+}
+
+// B = AES-1(K, (A ^ t) | R[i]), then A = MSB(64, B) and R[i] = LSB(64, B).
+fn unstep(table: &[u32; 256], words: &[u32; 60], rounds: usize, t: usize, i: usize, w: &mut [u8])
+    requires { ⌜ (1 ≤ i) × (8 * i + 8 ≤ length (now w)) × (t < 256) ⌝ }
+    ensures { λ _. ⌜ now (w .exit) ≡ spec.unstep (oneTable (now (table .entry)) (now (words .entry)) rounds) t i (now (w .entry)) ⌝ }
+{
+    let given = counted(pair(w, i), t);
+    let made = decrypt_block(table, words, rounds, given);
+    put_back(w, i, made);
+}

@@ -1,0 +1,107 @@
+use Prim.Native.Nat.{ℕ, _*_, _/_, _-_, _≤_, min}
+use mathlib.Core.List.{List, _++_}
+use mathlib.Core.Path.{_≡_, refl, sym, ap, ap₂, _∙_}
+use denote.Ref.{now}
+use lib.ListN.{length, drop}
+use lib.Seq.{paste}
+use Rattle.lookups.specs.Lookups.{oneTable}
+use Rattle.sp800_38a.specs.Modes.{machine}
+use Rattle.sp800_38a.specs.Pieces.{piece, outputOf, after}
+use Rattle.blocks.proofs.Laws.{block-at, block-put}
+use Rattle.steps.specs.declared.Stepped.{Stepped}
+use Rattle.steps.specs.Step.{stepOf}
+use Rattle.whole_pieces.proofs.Runs.{write-more, more-length, more-after}
+use borrow.Author.Needs.{needs}
+use native.Mathlib.Omega.{arith}
+use Rattle.whole_pieces.proofs.in_order.Statement.{statement}
+use Rattle.whole_pieces.proofs.in_order.Tie as tie
+
+abbrev Inv-loop : tie.InvT-loop
+Inv-loop table words rounds operation input output₀ both n chain₀ i₀ output chain i =
+    let m = machine (oneTable table words rounds) operation in
+    (i ≤ n) × (length output ≡ length output₀) × (length (outputOf 16 m chain₀ i input) ≡ i * 16)
+    × (chain ≡ after 16 m chain₀ i input) × (output ≡ outputOf 16 m chain₀ i input ++ drop (i * 16) output₀)
+
+abbrev μ-loop : tie.MeasureT-loop
+μ-loop table words rounds operation input output₀ both n chain₀ i₀ output chain i = n - i
+
+shorter-requires : tie.Need-shorter-requires Inv-loop μ-loop
+shorter-requires c κs = search needs
+
+loop-holds : tie.Need-loop-holds Inv-loop μ-loop
+unfolding outputOf after
+loop-holds c = (search needs, refl, refl, refl, refl)
+
+mul-load : tie.Need-mul-load Inv-loop μ-loop
+mul-load c = search needs
+
+load-requires : tie.Need-load-requires Inv-loop μ-loop
+load-requires c κs = search needs
+
+step-requires : tie.Need-step-requires Inv-loop μ-loop
+step-requires c κs = search needs
+
+mul-store : tie.Need-mul-store Inv-loop μ-loop
+mul-store c = search needs
+
+store-requires : tie.Need-store-requires Inv-loop μ-loop
+store-requires c κs = search needs
+
+add-i : tie.Need-add-i Inv-loop μ-loop
+add-i c = search needs
+
+loop-less : tie.Need-loop-less Inv-loop μ-loop
+loop-less c = search needs
+
+loop-again : tie.Need-loop-again Inv-loop μ-loop
+loop-again c =
+    let w = c .before .before .store in
+    let k = c .before .before .before .before .before .before in
+    let l = k .before .before .before .loop in
+    let a = k .before .before .before .before .before .before .before .args in
+    let inp = now (a .input) in
+    let m = machine (oneTable (now (a .table)) (now (a .words)) (a .rounds)) (a .operation) in
+    let st = after 16 m (a .iv) (l .i) inp in
+    let f = k .step .result .out in
+    let lf : length f ≡ 16 = search needs in
+    let p : k .before .load .result ≡ piece 16 inp (l .i) = k .before .load .ensures ∙ block-at inp (l .i * 16) (omega arith) in
+    let e : k .step .result ≡ stepOf m st (piece 16 inp (l .i)) = k .step .ensures ∙ ap₂ (stepOf m) (l .inv .3) p in
+    let ef : f ≡ m .out st (piece 16 inp (l .i)) = ap (λ (x : Stepped). x .out) e in
+    let lo : length (m .out st (piece 16 inp (l .i))) ≡ 16 = ap length (sym ef) ∙ lf in
+    let put : w .last .0 ≡ paste (l .output) (l .i * 16) (m .out st (piece 16 inp (l .i))) 16 =
+    w .ensures ∙ block-put (l .output) (l .i * 16) (omega arith) f ∙ ap (λ (x : List ℕ). paste (l .output) (l .i * 16) x 16) ef in (
+      search needs,
+      search needs,
+      more-length m (a .iv) inp (now (a .output)) (l .i) (l .inv .2) lo,
+      ap (λ (x : Stepped). x .next) e ∙ sym (more-after m (a .iv) inp (now (a .output)) (l .i)),
+      put ∙ write-more m (a .iv) inp (now (a .output)) (l .i) (l .output) (l .inv .2) lo (omega arith) (l .inv .4),
+    )
+
+same-length : tie.Need-same-length Inv-loop μ-loop
+same-length c = search needs
+
+returns : tie.Need-returns Inv-loop μ-loop
+returns c =
+    let l = c .before .loop in
+    let a = c .before .before .before .before .before .args in
+    let e : l .i ≡ min (length (now (a .input))) (length (now (a .output))) / 16 = omega (arith, c .before .before .shorter .ensures) in
+    rw (← e, l .inv .3, l .inv .4)
+
+pub in-order-spec : {M : Type 1} → statement M
+in-order-spec =
+    tie.close
+    (tie.spec
+    Inv-loop
+    μ-loop
+    shorter-requires
+    loop-holds
+    mul-load
+    load-requires
+    step-requires
+    mul-store
+    store-requires
+    add-i
+    loop-less
+    loop-again
+    same-length
+    returns)
