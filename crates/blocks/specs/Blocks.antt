@@ -1,4 +1,4 @@
--- Sixteen bytes of a list from a place on, and lists put into lists. Assumes nothing: these are definitions.
+-- Sixteen bytes of a list from a place on. Assumes nothing: these are definitions.
 use Prim.Native.Nat.{ℕ, _+_}
 use mathlib.Core.Bool.{Bool}
 use mathlib.Core.List.{List}
@@ -18,7 +18,3 @@ blockAt s at = choose (fits (length s) at) (take 16 (drop at s)) (replicate 16 0
 -- the list with a block in their place; the list as it is where it ends before
 unfoldable pub blockPut : List ℕ → ℕ → List ℕ → List ℕ
 blockPut s at b = choose (fits (length s) at) (paste s at b 16) s
-
--- the list w with the whole of s in it from a place on; w as it is where s does not fit
-unfoldable pub copied : List ℕ → ℕ → List ℕ → List ℕ
-copied s at w = choose (leb (at + length s) (length w)) (paste w at s (length s)) w

@@ -1,12 +1,11 @@
-// Blocks of 16 bytes by value: out of a slice, into a slice, their sum, and whether two are the same; and bytes copied from slice to slice.
+// Blocks of 16 bytes by value: out of a slice, into a slice, and their sum.
+use slices::has_room;
 ghost use mathlib.Core.Path.{_≡_};
 ghost use Prim.Native.Nat.{_+_, _≤_};
 ghost use lib.ListN.{length, take, drop};
 ghost use lib.Seq.{paste};
 ghost use Rattle.octets.specs.Blocks.{_⊕_};
-ghost use Rattle.blocks.specs.Blocks.{blockAt, blockPut, copied};
-ghost use lib.Dec.{leb};
-ghost use Rattle.octets.specs.Octets.{same};
+ghost use Rattle.blocks.specs.Blocks.{blockAt, blockPut};
 
 // The 16 bytes of s from a place on; zeros where s ends before.
 pub fn load(s: &[u8], at: usize) -> [u8; 16]
@@ -27,15 +26,6 @@ pub fn store(s: &mut [u8], at: usize, block: [u8; 16])
     }
 }
 
-// Puts the whole of s into w from a place on; leaves w as it is where it does not fit.
-pub fn copy(s: &[u8], w: &mut [u8], at: usize)
-    ensures { λ _. ⌜ now (w .exit) ≡ copied (now (s .entry)) at (now (w .entry)) ⌝ }
-{
-    if has_room(w.len(), at, s.len()) {
-        put_all(s, w, at);
-    }
-}
-
 pub fn xor(a: [u8; 16], b: [u8; 16]) -> [u8; 16]
     ensures { λ r. ⌜ r ≡ a ⊕ b ⌝ }
 {
@@ -44,18 +34,6 @@ pub fn xor(a: [u8; 16], b: [u8; 16]) -> [u8; 16]
         sum[i] = a[i] ^ b[i];
     }
     sum
-}
-
-// Whether two blocks are the same in all 16 bytes.
-pub fn equal(a: [u8; 16], b: [u8; 16]) -> bool
-    ensures { λ r. ⌜ r ≡ same a b ⌝ }
-{
-    for k in 0..16 {
-        if a[k] != b[k] {
-            return false;
-        }
-    }
-    true
 }
 
 fn get(s: &[u8], at: usize) -> [u8; 16]
@@ -76,26 +54,4 @@ fn put(s: &mut [u8], at: usize, block: [u8; 16])
     for i in 0..16 {
         s[at + i] = block[i];
     }
-}
-
-fn put_all(s: &[u8], w: &mut [u8], at: usize)
-    requires { ⌜ at + length (now s) ≤ length (now w) ⌝ }
-    ensures { λ _. ⌜ now (w .exit) ≡ paste (now (w .entry)) at (now (s .entry)) (length (now (s .entry))) ⌝ }
-{
-    for k in 0..s.len() {
-        w[at + k] = s[k];
-    }
-}
-
-// Whether something of this length has n bytes from a place on, asked so that no sum can wrap.
-fn has_room(length: usize, at: usize, n: usize) -> bool
-    ensures { λ r. ⌜ r ≡ leb (at + n) length ⌝ }
-{
-    if length < n {
-        return false;
-    }
-    if length - n < at {
-        return false;
-    }
-    true
 }

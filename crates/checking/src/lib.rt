@@ -1,7 +1,7 @@
 // The check of a block of an image, with the table, schedule and subkeys lent that it is made under: made, and asked of a block.
 // What is no block of 512 bytes has no right check.
-use blocks::equal;
 use blocks::load;
+use comparing::equal;
 use format::Rounds;
 use running::Run;
 use schedule::is_round_count;

@@ -7,7 +7,7 @@ use lib.ListN.{replicate}
 use Rattle.octets.specs.Octets.{Octets, choose, tabulate, entry}
 use Rattle.sbox.specs.Sbox.{sBox, invSBox}
 use Rattle.sbox.proofs.Laws.{entry-table, sBox-lt, invSBox-lt}
-use Rattle.words.specs.Columns.{mixedEntry, invMixedEntry}
+use Rattle.mixing.specs.Mixing.{mixedEntry, invMixedEntry}
 use Rattle.schedule.specs.Schedule.{scheduleOf, roundCount}
 use Rattle.schedule.specs.declared.Expanded.{Expanded}
 use Rattle.cipher.specs.declared.Ciphered.{Ciphered}

@@ -1,4 +1,5 @@
 // AES, FIPS 197: one block encrypted or decrypted under a key of 16, 24 or 32 bytes.
+use mixing::inv_mix_column;
 use rounds::decrypt_block;
 use rounds::encrypt_block;
 use schedule::KeyAnswer;
@@ -7,7 +8,6 @@ use schedule::RoundKeyNumber;
 use schedule::is_round_count;
 use tables::forward_table;
 use tables::inverse_table;
-use words::inv_mix_column;
 ghost use mathlib.Core.Path.{_≡_};
 ghost use Prim.Native.Nat.{_<_};
 ghost use lib.ListN.{length};

@@ -7,8 +7,8 @@
 //     n  a number of 32 bits
 //     w  a number of 64 bits
 //     o  what the output holds before the call
-use digits::Decoded;
-use digits::Number;
+use hex::Decoded;
+use numbers::Number;
 ghost use Rattle.io.specs.Counts.{Counts};
 
 // Bytes go to the memory of inputs one after the other, those of word k from ends[k - 1] up to ends[k]. The bytes of an
@@ -52,15 +52,15 @@ fn read_word(kind: u8, word: &[u8], ins: &mut [u8], outs: &mut [u8], at: usize) 
         return of_number(Number::Is(0), at);
     }
     if kind == b'n' {
-        return of_number(digits::decimal(word, 4294967295), at);
+        return of_number(numbers::decimal(word, 4294967295), at);
     }
     if kind == b'w' {
-        return of_number(digits::decimal(word, 18446744073709551615), at);
+        return of_number(numbers::decimal(word, 18446744073709551615), at);
     }
     if kind == b'o' {
-        return of_output(digits::decode(word, outs, 0), at);
+        return of_output(hex::decode(word, outs, 0), at);
     }
-    of_bytes(kind, digits::decode(word, ins, at), at)
+    of_bytes(kind, hex::decode(word, ins, at), at)
 }
 
 fn bad(at: usize) -> Taken {

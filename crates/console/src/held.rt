@@ -1,7 +1,7 @@
 // What the console holds from line to line.
 use cmac::Record;
-use header::Progress;
-use image::Reader;
+use progress::Progress;
+use reader::Reader;
 use schedule::KeySchedule;
 
 // The answers that wait to be written end at `end`; a call that keeps a value has its field here.

@@ -5,8 +5,8 @@ use crate::held::Held;
 use crate::print;
 use crate::stopped;
 use args::Args;
-use image::Turn;
-use writer::Numbers;
+use reader::Turn;
+use write_answers::Numbers;
 
 pub enum ImageCall {
     Write,
@@ -55,7 +55,7 @@ fn numbers(a: Args) -> Numbers {
 }
 
 fn start(held: Held, ins: &[u8], a: Args, text: &mut [u8], at: usize) -> Held {
-    let s = image::read_start(args::bytes(ins, a, 1), args::bytes(ins, a, 2));
+    let s = reader::read_start(args::bytes(ins, a, 1), args::bytes(ins, a, 2));
     let answer = s.answer;
     let reader = s.reader;
     held.with_reader(reader)
@@ -78,6 +78,6 @@ fn after_turn(held: Held, t: Turn, out: &[u8], text: &mut [u8], at: usize) -> He
 
 fn complete(held: Held, text: &mut [u8], at: usize) -> usize {
     let reader = held.reader;
-    let c = image::read_complete(reader);
+    let c = reader::read_complete(reader);
     print::number(c.number() as u64, text, at)
 }

@@ -1,8 +1,8 @@
 // How a turn of a reader stopped, as six numbers: `N ACCEPTED SUM PLACE REASON VALUE`. N is a refusal of the whole turn; a
 // block that stopped it has PLACE, REASON and, where the reason holds one, VALUE.
-use header::Reason;
-use header::Value;
-use image::Turn;
+use reader::Turn;
+use reasons::Reason;
+use reasons::Value;
 use tally::Stop;
 
 // Stands where there is no number: none of the six is as large.

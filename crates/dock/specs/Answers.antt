@@ -10,8 +10,8 @@ use Rattle.modes.specs.declared.Applied.{Applied}
 use Rattle.sp800_38a.specs.declared.Operation.{Operation}
 use Rattle.cmac.specs.declared.Checked.{Checked}
 use Rattle.cmac.specs.declared.Started.{Started}
-use Rattle.writer.specs.declared.Numbers.{Numbers}
-use Rattle.image.specs.declared.ReadStarted.{ReadStarted}
+use Rattle.write_answers.specs.declared.Numbers.{Numbers}
+use Rattle.reader.specs.declared.ReadStarted.{ReadStarted}
 use Rattle.dock.specs.declared.ScheduleAnswer.{ScheduleAnswer}
 use Rattle.dock.specs.declared.BlockAnswer.{BlockAnswer}
 use Rattle.dock.specs.declared.ChainAnswer.{ChainAnswer}

@@ -2,12 +2,12 @@
 // record of a running check, which is lent to be fed.
 use cipher::Ciphered;
 use cmac::Record;
-use image::Reader;
+use reader::Reader;
 use schedule::KeySchedule;
 use sp800_38a::Operation;
 use turn_answers::TurnAnswer;
 use turn_answers::turn_answer;
-use writer::Numbers;
+use write_answers::Numbers;
 ghost use mathlib.Core.Path.{_≡_};
 ghost use Rattle.field.specs.Field.{_•_};
 ghost use Rattle.sbox.specs.Sbox.{sBox};
@@ -17,9 +17,12 @@ ghost use Rattle.sp800_38a.specs.declared.Operation.the-variants.{EcbEncrypt, E
 ghost use Rattle.mode_answers.specs.Answers.{modeNumber};
 ghost use Rattle.modes.specs.Calls.{modeAnswer};
 ghost use Rattle.cmac.specs.Calls.{checkOf, startOf, fedWith, closeOf};
-ghost use Rattle.writer.specs.Calls as writer;
-ghost use Rattle.image.specs.Calls as image;
-ghost use Rattle.wrap.specs.Calls.{wrapNumber, wrapAnswer, wrapOutput, unwrapAnswer, unwrapOutput};
+ghost use Rattle.write_answers.specs.Answers.{writeNumber};
+ghost use Rattle.writer.specs.Calls.{writeAnswer, writeOutput};
+ghost use Rattle.reader.specs.Calls as readers;
+ghost use Rattle.image.specs.Calls.{turnOf};
+ghost use Rattle.wrap_answers.specs.Answers.{wrapNumber};
+ghost use Rattle.wrap.specs.Calls.{wrapAnswer, wrapOutput, unwrapAnswer, unwrapOutput};
 ghost use Rattle.dock.specs.Answers.{scheduleAnswer, blockAnswer, chainAnswer, modeApplied, afterMode, checkAnswer, startAnswer, closeAnswer, readStartAnswer, numbers};
 ghost use Rattle.turn_answers.specs.Answers.{turnAnswer};
 
@@ -237,8 +240,8 @@ pub extern "C" fn dock_write(
     payload: &[u8],
     output: &mut [u8],
 ) -> u32
-    ensures answer { λ r. ⌜ r ≡ writer.writeNumber (writer.writeAnswer (now (ekey .entry)) (now (ckey .entry)) (numbers number count release edition) (now (payload .entry)) (now (output .entry))) ⌝ }
-    ensures written { λ _. ⌜ now (output .exit) ≡ writer.writeOutput (writer.writeAnswer (now (ekey .entry)) (now (ckey .entry)) (numbers number count release edition) (now (payload .entry)) (now (output .entry))) (now (ekey .entry)) (now (ckey .entry)) (numbers number count release edition) (previous .bytes) (now (payload .entry)) (now (output .entry)) ⌝ }
+    ensures answer { λ r. ⌜ r ≡ writeNumber (writeAnswer (now (ekey .entry)) (now (ckey .entry)) (numbers number count release edition) (now (payload .entry)) (now (output .entry))) ⌝ }
+    ensures written { λ _. ⌜ now (output .exit) ≡ writeOutput (writeAnswer (now (ekey .entry)) (now (ckey .entry)) (numbers number count release edition) (now (payload .entry)) (now (output .entry))) (now (ekey .entry)) (now (ckey .entry)) (numbers number count release edition) (previous .bytes) (now (payload .entry)) (now (output .entry)) ⌝ }
 {
     let numbers = Numbers {
         number,
@@ -253,9 +256,9 @@ pub extern "C" fn dock_write(
 
 #[no_mangle]
 pub extern "C" fn dock_read_start(ekey: &[u8], ckey: &[u8]) -> ReadStartAnswer
-    ensures { λ r. ⌜ r ≡ readStartAnswer (image.startOf (now (ekey .entry)) (now (ckey .entry))) ⌝ }
+    ensures { λ r. ⌜ r ≡ readStartAnswer (readers.startOf (now (ekey .entry)) (now (ckey .entry))) ⌝ }
 {
-    let s = image::read_start(ekey, ckey);
+    let s = reader::read_start(ekey, ckey);
     let answer = s.answer;
     let reader = s.reader;
     ReadStartAnswer {
@@ -271,8 +274,8 @@ pub extern "C" fn dock_read_turn(
     asked: usize,
     output: &mut [u8],
 ) -> TurnAnswer
-    ensures answer { λ r. ⌜ r ≡ turnAnswer (image.turnOf reader (now (blocks .entry)) asked (now (output .entry)) .0) ⌝ }
-    ensures written { λ _. ⌜ now (output .exit) ≡ image.turnOf reader (now (blocks .entry)) asked (now (output .entry)) .1 ⌝ }
+    ensures answer { λ r. ⌜ r ≡ turnAnswer (turnOf reader (now (blocks .entry)) asked (now (output .entry)) .0) ⌝ }
+    ensures written { λ _. ⌜ now (output .exit) ≡ turnOf reader (now (blocks .entry)) asked (now (output .entry)) .1 ⌝ }
 {
     let t = image::read_turn(reader, blocks, asked, output);
     turn_answer(t)
@@ -280,9 +283,9 @@ pub extern "C" fn dock_read_turn(
 
 #[no_mangle]
 pub extern "C" fn dock_read_complete(reader: Reader) -> u32
-    ensures { λ r. ⌜ r ≡ image.completionNumber (image.completionOf reader) ⌝ }
+    ensures { λ r. ⌜ r ≡ readers.completionNumber (readers.completionOf reader) ⌝ }
 {
-    let answer = image::read_complete(reader);
+    let answer = reader::read_complete(reader);
     answer.number()
 }
 

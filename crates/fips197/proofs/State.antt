@@ -10,8 +10,8 @@ use Rattle.octets.specs.Words.{byte}
 use Rattle.octets.proofs.Xor.{xor-lt}
 use Rattle.octets.proofs.Fill.{length-tabulate, getD-tabulate, tabulate-lt, is-tabulate}
 use Rattle.octets.proofs.Words.{byte-lt}
-use Rattle.words.specs.Columns.{row, mixRow, invMixRow}
-use Rattle.words.proofs.Rotate.{row-lt}
+use Rattle.mixing.specs.Mixing.{row, mixRow, invMixRow}
+use Rattle.mixing.proofs.Mix.{row-lt}
 use Rattle.fips197.specs.State.{Shape, aes, at, state, subBytes, shiftRows, invShiftRows, mixAt, mixColumns, invMixColumns, addRoundKey}
 
 -- the bytes of a state of this shape

@@ -12,7 +12,7 @@ use Rattle.octets.proofs.Xor.{xor-assoc, xor-comm, xor-left-comm, xor-zero, zer
 use Rattle.octets.proofs.Tests.{on-bytes}
 use Rattle.field.specs.Field.{xTimes, productWithin, _•_}
 use Rattle.field.proofs.Laws.{product-lt, product-xor}
-use Rattle.words.specs.Columns.{row, mixRow, invMixRow}
+use Rattle.mixing.specs.Mixing.{row, mixRow, invMixRow}
 use Rattle.fips197.specs.State.{Shape, at, state, mixAt, subBytes, shiftRows, invShiftRows, mixColumns, invMixColumns, addRoundKey}
 use Rattle.fips197.specs.Cipher.{oneRound, rounds, cipher, invRound, invRounds, invCipher}
 use Rattle.fips197.proofs.State.{Block, Regular, at-state, is-state, addAt, shiftAt, invShiftAt, add-block, shift-block, inv-shift-block, mix-block, inv-mix-block, sub-block, sub-undone}

@@ -4,7 +4,7 @@ use mathlib.Core.List.{List, map}
 use lib.ListN.{getD}
 use Rattle.octets.specs.Octets.{xor, tabulate}
 use Rattle.octets.specs.Words.{byte}
-use Rattle.words.specs.Columns.{mixRow, invMixRow}
+use Rattle.mixing.specs.Mixing.{mixRow, invMixRow}
 
 -- how many columns a state has, and how far each row is shifted: the Rijndael ciphers differ in these alone
 pub record Shape : Type 0 where

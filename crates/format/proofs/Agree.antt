@@ -25,13 +25,14 @@ use Rattle.sp800_38a.proofs.Same.{moded-same}
 use Rattle.sp800_38b.specs.Cmac.{key1, key2, cmac, cmacBy}
 use Rattle.sp800_38b.proofs.Same.{cmac-same, cmac-by}
 use Rattle.layout.specs.Layout.{headBytes}
-use Rattle.header.specs.Rules.{firstOf, closed}
+use Rattle.reasons.specs.Reasons.{firstOf}
+use Rattle.progress.specs.Progress.{closed}
 use Rattle.layout.specs.declared.Head.{Head}
-use Rattle.header.specs.declared.Progress.{Progress}
-use Rattle.header.specs.declared.Reason.the-variants.{AfterLast, CheckWrong}
-use Rattle.header.specs.declared.Verdict.the-variants.{Accepted, Refused}
+use Rattle.progress.specs.declared.Progress.{Progress}
+use Rattle.reasons.specs.declared.Reason.the-variants.{AfterLast, CheckWrong}
+use Rattle.reasons.specs.declared.Verdict.the-variants.{Accepted, Refused}
 use Rattle.layout.proofs.Laws.{head-octets}
-use Rattle.header.proofs.Order.{all-false}
+use Rattle.reasons.proofs.Order.{all-false}
 use Rattle.format.specs.Edition.{Edition}
 use Rattle.format.specs.Sealed.{filled, front, sealed, opened, checks, zeroAfter}
 use Rattle.format.specs.Judge.{Keys, tests, judge}

@@ -15,13 +15,15 @@ use Rattle.schedule.specs.Schedule.{roundCount}
 use Rattle.layout.specs.Layout.{headOf}
 use Rattle.limits.specs.Fits.{countFits}
 use Rattle.limits.specs.Marks.{selected}
-use Rattle.header.specs.Rules.{firstOf, closed, markFor, headTests}
+use Rattle.reasons.specs.Reasons.{firstOf}
+use Rattle.progress.specs.Progress.{closed, markFor}
+use Rattle.header.specs.Rules.{headTests}
 use Rattle.layout.specs.declared.Head.{Head}
-use Rattle.header.specs.declared.Reason.{Reason}
-use Rattle.header.specs.declared.Reason.the-variants.{AfterLast, CheckWrong, FillNotZero}
-use Rattle.header.specs.declared.Verdict.{Verdict}
-use Rattle.header.specs.declared.Verdict.the-variants.{Accepted, Refused}
-use Rattle.header.proofs.Order.{hit, miss, through, unless, after-tests, all-false}
+use Rattle.reasons.specs.declared.Reason.{Reason}
+use Rattle.reasons.specs.declared.Reason.the-variants.{AfterLast, CheckWrong, FillNotZero}
+use Rattle.reasons.specs.declared.Verdict.{Verdict}
+use Rattle.reasons.specs.declared.Verdict.the-variants.{Accepted, Refused}
+use Rattle.reasons.proofs.Order.{hit, miss, through, unless, after-tests, all-false}
 use Rattle.layout.proofs.Laws.{head-of-first}
 use Rattle.header.proofs.Laws.{number-below}
 use Rattle.format.specs.Edition.{Edition, tailOf}
@@ -30,7 +32,7 @@ use Rattle.format.specs.Judge.{Keys, tests, judge, either, ofBoth}
 use Rattle.format.specs.Lent.{usable, filledOut, headRead, judged}
 use Rattle.format.specs.declared.Rounds.{Rounds}
 use Rattle.format.specs.declared.Judged.{Judged}
-use Rattle.header.specs.declared.Progress.{Progress}
+use Rattle.progress.specs.declared.Progress.{Progress}
 use Rattle.format.proofs.Sizes.{Sixteen, checks-block}
 
 pub flip : (t : Bool) {u : Bool} → not t ≡ u → t ≡ not u

@@ -10,7 +10,7 @@ use Rattle.octets.specs.Octets.{choose, entry}
 use Rattle.octets.specs.Words.{bytesOf}
 use Rattle.octets.specs.Blocks.{_⊕_, BlockCipher}
 use Rattle.octets.proofs.Blocks.{⊕-length}
-use Rattle.blocks.proofs.Laws.{same-true}
+use Rattle.octets.proofs.Same.{same-true}
 use Rattle.schedule.specs.Schedule.{roundCount}
 use Rattle.lookups.specs.Columns.{blockOf, columnsOf}
 use Rattle.lookups.specs.Lookups.{tableEncrypt, tableDecrypt, tableForth, tableBack}

@@ -6,12 +6,14 @@ use lib.ListN.{drop}
 use Rattle.octets.specs.Blocks.{BlockCipher}
 use Rattle.layout.specs.Layout.{checkAt, headOf}
 use Rattle.limits.specs.Marks.{selected}
-use Rattle.header.specs.Rules.{firstOf, closed, markFor, headTests}
+use Rattle.reasons.specs.Reasons.{firstOf}
+use Rattle.progress.specs.Progress.{closed, markFor}
+use Rattle.header.specs.Rules.{headTests}
 use Rattle.layout.specs.declared.Head.{Head}
-use Rattle.header.specs.declared.Progress.{Progress}
-use Rattle.header.specs.declared.Reason.{Reason}
-use Rattle.header.specs.declared.Reason.the-variants.{AfterLast, CheckWrong, FillNotZero}
-use Rattle.header.specs.declared.Verdict.{Verdict}
+use Rattle.progress.specs.declared.Progress.{Progress}
+use Rattle.reasons.specs.declared.Reason.{Reason}
+use Rattle.reasons.specs.declared.Reason.the-variants.{AfterLast, CheckWrong, FillNotZero}
+use Rattle.reasons.specs.declared.Verdict.{Verdict}
 use Rattle.format.specs.Edition.{Edition, noCheck, tailOf}
 use Rattle.format.specs.Sealed.{Mac, opened, checks, fillZero}
 

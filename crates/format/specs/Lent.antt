@@ -14,7 +14,7 @@ use Rattle.lookups.specs.Lookups.{tableCipher, oneTable}
 use Rattle.sp800_38b.specs.Cmac.{cmacBy}
 use Rattle.layout.specs.Layout.{bodySize, blockSize, headOf}
 use Rattle.layout.specs.declared.Head.{Head}
-use Rattle.header.specs.declared.Progress.{Progress}
+use Rattle.progress.specs.declared.Progress.{Progress}
 use Rattle.format.specs.Sealed.{Mac, sealed, opened, zeroAfter}
 use Rattle.format.specs.Judge.{Keys, ofBoth}
 use Rattle.format.specs.declared.Rounds.{Rounds}

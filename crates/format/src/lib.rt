@@ -1,7 +1,7 @@
 // What one block of an image is, sealed, opened and judged, for an edition of the format, and the laws of it: no code but two types
 // and the test of two keys.
-use header::Verdict;
 use layout::Head;
+use reasons::Verdict;
 use schedule::KeyAnswer;
 ghost use mathlib.Core.Path.{_≡_};
 ghost use mathlib.Core.Bool.{_&&_};

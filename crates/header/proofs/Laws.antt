@@ -6,9 +6,9 @@ use native.Mathlib.Omega.{arith}
 use borrow.Author.Tests.{ltb-true, ltb-false, leb-false, eqb-true, not-false}
 use lib.Dec.{eqb, ltb, leb}
 use Rattle.limits.specs.Fits.{countFits}
-use Rattle.header.specs.Rules.{closed}
+use Rattle.progress.specs.Progress.{closed}
 use Rattle.layout.specs.declared.Head.{Head}
-use Rattle.header.specs.declared.Progress.{Progress}
+use Rattle.progress.specs.declared.Progress.{Progress}
 
 -- where neither 16 nor 7, 8 or 9 holds, the number is below the count: it is 0, or the one expected, which is below the reader's count
 pub number-below : (s : Progress) (h : Head) → closed s ≡ false → countFits (h .count) ≡ true → h .number ≡ s .next

@@ -1,42 +1,11 @@
--- The calls: starting, turning and asking a reader. Assumes nothing: these are definitions.
+-- The call: a turn of a reader. Assumes nothing: these are definitions.
 use Prim.Native.Nat.{ℕ}
 use mathlib.Core.List.{List}
-use lib.ListN.{replicate}
-use Rattle.octets.specs.Octets.{choose}
-use Rattle.sbox.specs.Sbox.{sBox}
-use Rattle.schedule.specs.Schedule.{scheduleOf}
-use Rattle.schedule.specs.declared.Expanded.{Expanded}
-use Rattle.schedule.specs.declared.KeySchedule.{KeySchedule}
-use Rattle.schedule.specs.declared.KeyAnswer.{KeyAnswer}
-use Rattle.schedule.specs.declared.KeyAnswer.the-variants.{Taken, KeyLength}
-use Rattle.header.specs.Rules.{done}
-use Rattle.format.specs.Judge.{Keys, fresh, BlockReader, ofBoth}
-use Rattle.format.specs.Lent.{bothTaken}
+use Rattle.format.specs.Judge.{Keys, BlockReader, ofBoth}
 use Rattle.tally.specs.declared.BlocksRead.{BlocksRead}
 use Rattle.turns.specs.Turn.{keysUnder, turnUnder}
-use Rattle.image.specs.declared.Reader.{Reader}
-use Rattle.image.specs.declared.ReadStarted.{ReadStarted}
-use Rattle.image.specs.declared.Turn.{Turn}
-use Rattle.image.specs.declared.Completion.{Completion}
-use Rattle.image.specs.declared.Completion.the-variants.{Complete, NotComplete}
-
--- ---- the start
-
-abbrev pub noSchedule : KeySchedule
-noSchedule = record { words = replicate 60 0; rounds = 0 }
-
-abbrev pub startWith : KeyAnswer → (enc chk : KeySchedule) → ReadStarted
-startWith answer enc chk = record { answer = answer; reader = record { enc = enc; chk = chk; progress = fresh } }
-
--- zeros where a key was refused
-abbrev pub startedBy : (ekey ckey : Expanded) → ReadStarted
-startedBy ekey ckey =
-    choose (bothTaken ekey ckey) (startWith Taken (ekey .schedule) (ckey .schedule)) (startWith KeyLength noSchedule noSchedule)
-
-unfoldable pub startOf : (ekey ckey : List ℕ) → ReadStarted
-startOf ekey ckey = startedBy (scheduleOf sBox ekey) (scheduleOf sBox ckey)
-
--- ---- a turn
+use Rattle.reader.specs.declared.Reader.{Reader}
+use Rattle.reader.specs.declared.Turn.{Turn}
 
 abbrev pub keysOf : Reader → Keys
 keysOf r = keysUnder (r .enc .words) (r .chk .words) (record { enc = r .enc .rounds; chk = r .chk .rounds })
@@ -56,12 +25,3 @@ turnAfter r t = record {
 
 unfoldable pub turnOf : Reader → (lent : List ℕ) (asked : ℕ) (out : List ℕ) → Turn × List ℕ
 turnOf r lent asked out = (turnAfter r (turnUnder (keysOf r) (r .progress) lent asked out .0), turnUnder (keysOf r) (r .progress) lent asked out .1)
-
--- ---- completion
-
-abbrev pub completionNumber : Completion → ℕ
-completionNumber Complete = 0
-completionNumber NotComplete = 17
-
-unfoldable pub completionOf : Reader → Completion
-completionOf r = choose (done (r .progress)) Complete NotComplete

@@ -1,18 +1,18 @@
 // The verdict on a block of an image, with the tables and schedules lent that its ciphers look up in.
 use blocks::load;
 use checking::check_holds;
+use fill::fill_is_zero;
 use format::Judged;
 use format::Rounds;
-use header::Progress;
-use header::Reason;
-use header::Verdict;
 use header::judge_head;
-use header::mark_for;
 use layout::Head;
 use layout::head_of;
 use limits::selected;
 use limits::tail_size;
-use opening::fill_is_zero;
+use progress::Progress;
+use progress::mark_for;
+use reasons::Reason;
+use reasons::Verdict;
 ghost use mathlib.Core.Path.{_≡_};
 ghost use Rattle.format.specs.Judge.{ofBoth};
 ghost use Rattle.format.specs.Lent.{lentKeys, headRead, judged};
@@ -66,7 +66,7 @@ fn verdict_on(
     requires { ⌜ head ≡ headRead (now block) ⌝ }
     ensures { λ r. ⌜ r ≡ ofBoth (lentKeys (now (forth .entry)) (now (back .entry)) (now (ewords .entry)) (now (dwords .entry)) (now (cwords .entry)) (now (key1 .entry)) (now (key2 .entry)) rounds) .verdict progress (now (block .entry)) ⌝ }
 {
-    if header::closed(progress) {
+    if progress::closed(progress) {
         return Verdict::Refused(Reason::AfterLast);
     }
     let last = progress.last;

@@ -1,11 +1,11 @@
 // Lists the blocks of an image. Standard input has two keys of 16 bytes and then the blocks; each block gets a line.
 mod rows;
 
-use image::ReadStarted;
-use image::Reader;
-use image::Turn;
 use libc::STDIN_FILENO;
 use libc::STDOUT_FILENO;
+use reader::ReadStarted;
+use reader::Reader;
+use reader::Turn;
 use schedule::KeyAnswer;
 
 // The lines that wait to be written. A line has at most 63 bytes: three numbers of up to 20 digits, two spaces, a line feed.
@@ -119,7 +119,7 @@ fn list_blocks(reader: Reader, text: &mut Text) -> Listed {
 fn close(l: Listed, text: &mut Text) {
     let reader = l.reader;
     let accepted = reader.progress.next;
-    let complete = image::read_complete(reader).number() as u64;
+    let complete = reader::read_complete(reader).number() as u64;
     let end = rows::last(complete, accepted as u64, text, l.end);
     write_out(end, text);
 }
@@ -136,7 +136,7 @@ fn list(reader: Reader) {
 
 // Where the input ends within the keys, the one that is short or missing is refused like any other of a wrong length.
 fn start(keys: &[u8]) -> ReadStarted {
-    image::read_start(lines::part(keys, 0, 16), lines::part(keys, 16, 32))
+    reader::read_start(lines::part(keys, 0, 16), lines::part(keys, 16, 32))
 }
 
 fn main() {

@@ -8,7 +8,7 @@ use native.Mathlib.Nat.{add-zero}
 use borrow.Author.Tests.{lt-ltb, le-ltb, eq-eqb, ne-eqb}
 use lib.ListN.{getD}
 use Rattle.octets.proofs.Fill.{getD-tabulate}
-use Rattle.words.specs.Columns.{invMixColumn}
+use Rattle.mixing.specs.Mixing.{invMixColumn}
 use Rattle.schedule.specs.Schedule.{roundCount}
 use Rattle.lookups.specs.Lookups.{inverseWord, inverseWords}
 use Rattle.fips197.proofs.Rounds.{round-count}

@@ -8,8 +8,9 @@ use Rattle.octets.specs.Octets.{xor}
 use Rattle.octets.specs.Words.{word, byte, bytesOf}
 use Rattle.octets.proofs.Fill.{is-tabulate}
 use Rattle.octets.proofs.Words.{byte-lt, byte-xor, byte0-word, byte1-word, byte2-word, byte3-word}
-use Rattle.words.specs.Columns.{IsDiagonal, row, column, mixColumn, invMixColumn}
-use Rattle.words.proofs.Rotate.{row-lt}
+use Rattle.words.specs.Columns.{IsDiagonal}
+use Rattle.mixing.specs.Mixing.{row, column, mixColumn, invMixColumn}
+use Rattle.mixing.proofs.Mix.{row-lt}
 use Rattle.lookups.specs.Columns.{columns}
 use Rattle.fips197.specs.State.{aes, subBytes, shiftRows, invShiftRows, mixColumns, invMixColumns, addRoundKey}
 

@@ -5,7 +5,7 @@ use Prim.Native.Nat.{ℕ}
 use Rattle.octets.specs.Octets.{Octets, entry}
 use Rattle.octets.specs.Blocks.{BlockCipher}
 use Rattle.sbox.specs.Sbox.{sBox, invSBox}
-use Rattle.words.specs.Columns.{mixedEntry, invMixedEntry}
+use Rattle.mixing.specs.Mixing.{mixedEntry, invMixedEntry}
 use Rattle.sbox.proofs.Laws.{entry-table, sBox-lt, invSBox-lt}
 use Rattle.fips197.specs.Cipher.{blockCipher}
 use Rattle.lookups.specs.Lookups.{tableCipher, inverseWords}

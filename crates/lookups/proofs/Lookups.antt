@@ -9,9 +9,10 @@ use lib.ListN.{replicate}
 use Rattle.octets.specs.Octets.{xor, choose, Bytes, Octets}
 use Rattle.octets.specs.Words.{byte, bytesOf}
 use Rattle.octets.proofs.Words.{byte-lt}
-use Rattle.words.specs.Columns.{diagonal, IsDiagonal, mixColumn, invMixColumn, mixedEntry, invMixedEntry, subMixColumn, subByte}
+use Rattle.words.specs.Columns.{diagonal, IsDiagonal, subMixColumn, subByte}
+use Rattle.mixing.specs.Mixing.{mixColumn, invMixColumn, mixedEntry, invMixedEntry}
 use Rattle.words.proofs.Rotate.{is-diagonal}
-use Rattle.words.proofs.Spin.{inv-mix-xor, sub-mix-column-mixes, sub-mix-column-mixes-back, middle-entry}
+use Rattle.mixing.proofs.Spin.{inv-mix-xor, sub-mix-column-mixes, sub-mix-column-mixes-back, middle-entry}
 use Rattle.lookups.specs.declared.Columns.{Columns}
 use Rattle.fips197.specs.State.{aes, subBytes, shiftRows, invShiftRows, mixColumns, invMixColumns, addRoundKey}
 use Rattle.schedule.specs.Schedule.{roundCount}

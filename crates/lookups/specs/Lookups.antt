@@ -7,7 +7,8 @@ use lib.Dec.{eqb, ltb}
 use lib.ListN.{getD, replicate}
 use Rattle.octets.specs.Octets.{xor, choose, tabulate, entry}
 use Rattle.octets.specs.Blocks.{BlockCipher}
-use Rattle.words.specs.Columns.{diagonal, mixColumn, invMixColumn, subMixColumn, subByte}
+use Rattle.words.specs.Columns.{diagonal, subMixColumn, subByte}
+use Rattle.mixing.specs.Mixing.{mixColumn, invMixColumn}
 use Rattle.lookups.specs.declared.Columns.{Columns}
 use Rattle.lookups.specs.Columns.{columns, blockOf, columnsOf}
 use Rattle.schedule.specs.Schedule.{roundCount}

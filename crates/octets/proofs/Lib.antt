@@ -4,3 +4,4 @@ pub mod Fill
 pub mod Words
 pub mod Blocks
 pub mod Arms
+pub mod Same

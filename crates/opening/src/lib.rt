@@ -1,35 +1,10 @@
-// One block of an image opened, with the tables and schedules lent that its cipher looks up in, and the test of its fill.
-// What is no block of 512 bytes has no zero fill, and is not opened.
-mod fill;
-
-use crate::fill::zero_after;
+// One block of an image opened, with the tables and schedules lent that its cipher looks up in.
 use blocks::load;
 use rounds::encrypt_block;
 use sp800_38a::Operation;
 ghost use mathlib.Core.Path.{_≡_};
 ghost use Rattle.lookups.specs.Lookups.{tableCipher};
-ghost use Rattle.format.specs.Lent.{filledOut, openedOver};
-
-// Whether what follows a payload of this length is zero.
-pub fn fill_is_zero(
-    forth: &[u32; 256],
-    back: &[u32; 256],
-    ewords: &[u32; 60],
-    dwords: &[u32; 60],
-    rounds: usize,
-    block: &[u8],
-    len: usize,
-) -> bool
-    ensures { λ r. ⌜ r ≡ filledOut (tableCipher (now (forth .entry)) (now (back .entry)) (now (ewords .entry)) (now (dwords .entry)) rounds) len (now (block .entry)) ⌝ }
-{
-    if block.len() != 512 {
-        return false;
-    }
-    if len >= 480 {
-        return true;
-    }
-    zero_after(forth, back, ewords, dwords, rounds, block, len)
-}
+ghost use Rattle.format.specs.Lent.{openedOver};
 
 // Puts the 480 decrypted bytes of a block into the first of an output; the IV is the header enciphered.
 // Where there is no block, or no room for its bytes, nothing is written.

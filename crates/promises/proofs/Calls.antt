@@ -6,7 +6,8 @@ use denote.Ref.{now}
 use lib.ListN.{length}
 use Prim.Native.Nat.{_+_}
 use lib.Dec.{leb}
-use Rattle.blocks.specs.Blocks.{fits, blockPut, copied}
+use Rattle.blocks.specs.Blocks.{fits, blockPut}
+use Rattle.slices.specs.Slices.{copied}
 use Rattle.field.proofs.double.Reads as double
 use Rattle.field.proofs.product.Reads as product
 use Rattle.logarithms.proofs.logarithm.Reads as logarithm
@@ -14,16 +15,20 @@ use Rattle.powers.proofs.power.Reads as power
 use Rattle.sbox.proofs.table.Reads as table
 use Rattle.sbox.proofs.inv_table.Reads as inv-table
 use Rattle.blocks.proofs.load.Reads as load
-use Rattle.blocks.proofs.copy.Reads as copy
+use Rattle.slices.proofs.copy.Reads as copy
+use Rattle.slices.proofs.has_room.Reads as has-room
 use Rattle.blocks.proofs.store.Reads as store
 use Rattle.blocks.proofs.xor.Reads as xor
 use Rattle.words.proofs.join.Reads as join
 use Rattle.words.proofs.rot_word.Reads as rot-word
+use Rattle.words.proofs.rot_two.Reads as rot-two
+use Rattle.words.proofs.rot_three.Reads as rot-three
 use Rattle.words.proofs.sub_word.Reads as sub-word
-use Rattle.words.proofs.mix_column.Reads as mix-column
-use Rattle.words.proofs.inv_mix_column.Reads as inv-mix-column
+use Rattle.mixing.proofs.mix_column.Reads as mix-column
+use Rattle.mixing.proofs.inv_mix_column.Reads as inv-mix-column
 use Rattle.words.proofs.sub_mix_column.Reads as sub-mix-column
 use Rattle.words.proofs.sub_column.Reads as sub-column
+use Rattle.expansion.proofs.expand.Reads as expand
 use Rattle.schedule.proofs.KeySchedule.new.Reads as new
 use Rattle.schedule.proofs.is_round_count.Reads as is-round-count
 use Rattle.words.proofs.word_bytes.Reads as word-bytes
@@ -90,6 +95,18 @@ rot-word-asks-nothing κs a = tt
 pub rot-word-determined : (κs : _) (a : _) (r r′ : _) (s s′ : _) → rot-word.Post κs a r s → rot-word.Post κs a r′ s′ → r ≡ r′
 rot-word-determined κs a r r′ s s′ p q = p ∙ sym q
 
+pub rot-two-asks-nothing : (κs : _) (a : _) → rot-two.Asked κs a
+rot-two-asks-nothing κs a = tt
+
+pub rot-two-determined : (κs : _) (a : _) (r r′ : _) (s s′ : _) → rot-two.Post κs a r s → rot-two.Post κs a r′ s′ → r ≡ r′
+rot-two-determined κs a r r′ s s′ p q = p ∙ sym q
+
+pub rot-three-asks-nothing : (κs : _) (a : _) → rot-three.Asked κs a
+rot-three-asks-nothing κs a = tt
+
+pub rot-three-determined : (κs : _) (a : _) (r r′ : _) (s s′ : _) → rot-three.Post κs a r s → rot-three.Post κs a r′ s′ → r ≡ r′
+rot-three-determined κs a r r′ s s′ p q = p ∙ sym q
+
 pub sub-word-asks-nothing : (κs : _) (a : _) → sub-word.Asked κs a
 sub-word-asks-nothing κs a = tt
 
@@ -119,6 +136,12 @@ sub-column-asks-nothing κs a = tt
 
 pub sub-column-determined : (κs : _) (a : _) (r r′ : _) (s s′ : _) → sub-column.Post κs a r s → sub-column.Post κs a r′ s′ → r ≡ r′
 sub-column-determined κs a r r′ s s′ p q = p ∙ sym q
+
+pub expand-asks-nothing : (κs : _) (a : _) → expand.Asked κs a
+expand-asks-nothing κs a = tt
+
+pub expand-determined : (κs : _) (a : _) (r r′ : _) (s s′ : _) → expand.Post κs a r s → expand.Post κs a r′ s′ → r ≡ r′
+expand-determined κs a r r′ s s′ p q = p ∙ sym q
 
 pub new-asks-nothing : (κs : _) (a : _) → new.Asked κs a
 new-asks-nothing κs a = tt
@@ -234,6 +257,12 @@ xor-asks-nothing κs a = tt
 
 pub xor-determined : (κs : _) (a : _) (r r′ : _) (s s′ : _) → xor.Post κs a r s → xor.Post κs a r′ s′ → r ≡ r′
 xor-determined κs a r r′ s s′ p q = p ∙ sym q
+
+pub has-room-asks-nothing : (κs : _) (a : _) → has-room.Asked κs a
+has-room-asks-nothing κs a = tt
+
+pub has-room-determined : (κs : _) (a : _) (r r′ : _) (s s′ : _) → has-room.Post κs a r s → has-room.Post κs a r′ s′ → r ≡ r′
+has-room-determined κs a r r′ s s′ p q = p ∙ sym q
 
 pub copy-asks-nothing : (κs : _) (a : _) → copy.Asked κs a
 copy-asks-nothing κs a = tt

@@ -9,7 +9,8 @@ use borrow.Author.Tests.{eq-eqb, ne-eqb}
 use lib.ListN.{length, replicate}
 use Rattle.octets.specs.Octets.{Octets, padTo}
 use Rattle.sbox.specs.Sbox.{sBox, invSBox}
-use Rattle.schedule.specs.Schedule.{keyExpansion, taken, refused, scheduleOf, keyNumber, roundCount}
+use Rattle.expansion.specs.Expansion.{keyExpansion}
+use Rattle.schedule.specs.Schedule.{taken, refused, scheduleOf, keyNumber, roundCount}
 use Rattle.schedule.specs.declared.Expanded.{Expanded}
 use Rattle.schedule.specs.declared.KeyAnswer.the-variants.{Taken, KeyLength}
 use Rattle.fips197.specs.State.{aes}

@@ -18,12 +18,13 @@ use Rattle.modes.specs.Calls.{modeAnswer}
 use Rattle.modes.specs.declared.Applied.{Applied}
 use Rattle.sp800_38a.specs.declared.Operation.{Operation}
 use Rattle.sp800_38a.specs.declared.Operation.the-variants.{EcbEncrypt, EcbDecrypt, CbcEncrypt, CbcDecrypt, CfbEncrypt, CfbDecrypt, Ofb}
-use Rattle.writer.specs.Calls.{writeNumber}
-use Rattle.image.specs.Calls.{startOf, turnOf, completionNumber}
+use Rattle.write_answers.specs.Answers.{writeNumber}
+use Rattle.reader.specs.Calls.{startOf, completionNumber}
+use Rattle.image.specs.Calls.{turnOf}
 use Rattle.tally.specs.declared.Stop.{Stop}
 use Rattle.tally.specs.declared.Stop.the-variants.{End, Asked, Lent, Room, At}
-use Rattle.image.specs.declared.Turn.{Turn}
-use Rattle.wrap.specs.Calls.{wrapNumber}
+use Rattle.reader.specs.declared.Turn.{Turn}
+use Rattle.wrap_answers.specs.Answers.{wrapNumber}
 use Rattle.dock.specs.Answers.{scheduleAnswer, blockAnswer, modeApplied, chainAnswer, afterMode, checkAnswer, startAnswer, closeAnswer, readStartAnswer, numbers}
 use Rattle.turn_answers.specs.Answers.{toldOf, turnAnswer}
 use Rattle.dock.specs.declared.ChainAnswer.{ChainAnswer}
@@ -44,9 +45,9 @@ use Rattle.cmac.proofs.start.Reads as start
 use Rattle.cmac.proofs.fed_with.Reads as fed-with
 use Rattle.cmac.proofs.close.Reads as close
 use Rattle.writer.proofs.write.Reads as write
-use Rattle.image.proofs.read_start.Reads as read-start
+use Rattle.reader.proofs.read_start.Reads as read-start
 use Rattle.image.proofs.read_turn.Reads as read-turn
-use Rattle.image.proofs.read_complete.Reads as read-complete
+use Rattle.reader.proofs.read_complete.Reads as read-complete
 use Rattle.wrap.proofs.wrap.Reads as wrap
 use Rattle.wrap.proofs.unwrap.Reads as unwrap
 use Rattle.turn_answers.proofs.turn_answer.Reads as turn-answer

@@ -8,8 +8,9 @@ use Rattle.octets.specs.Octets.{choose, xor, tabulate}
 use Rattle.octets.specs.Words.{word}
 use Rattle.field.specs.Field.{xTimes, xPower, productWithin, _•_}
 use Rattle.sbox.specs.Sbox.{square, powerWithin, inverse, bit, fromBits, affine, invAffine, sBox, invSBox}
-use Rattle.words.specs.Columns.{rotWord, diagonal, row}
-use Rattle.schedule.specs.Schedule.{rCon, keyWord, temp, nextWord}
+use Rattle.words.specs.Columns.{rotWord, diagonal}
+use Rattle.mixing.specs.Mixing.{row}
+use Rattle.expansion.specs.Expansion.{rCon, keyWord, temp, nextWord}
 use Rattle.fips197.specs.State.{aes, at, state, shiftRows, mixColumns, invMixColumns}
 use Rattle.sp800_38b.specs.Cmac.{shifted, doubled}
 

@@ -23,28 +23,31 @@ use Rattle.sp800_38a.specs.Pieces.{piece}
 use Rattle.sp800_38b.specs.Cmac.{cmac, SameOutside}
 use Rattle.layout.specs.Layout.{headOf}
 use Rattle.limits.specs.Marks.{isEdition, selected}
-use Rattle.header.specs.Rules.{done, closed, reasonNumber, markFor}
+use Rattle.reasons.specs.Reasons.{reasonNumber}
+use Rattle.progress.specs.Progress.{done, closed, markFor}
 use Rattle.layout.specs.declared.Head.{Head}
-use Rattle.header.specs.declared.Progress.{Progress}
-use Rattle.header.specs.declared.Reason.{Reason}
-use Rattle.header.specs.declared.Reason.the-variants.{AfterLast, CheckWrong, Count, Number, OtherCount, OtherRelease, Length, Reserved, FillNotZero}
-use Rattle.header.specs.declared.Verdict.the-variants.{Accepted, Refused}
+use Rattle.progress.specs.declared.Progress.{Progress}
+use Rattle.reasons.specs.declared.Reason.{Reason}
+use Rattle.reasons.specs.declared.Reason.the-variants.{AfterLast, CheckWrong, Count, Number, OtherCount, OtherRelease, Length, Reserved, FillNotZero}
+use Rattle.reasons.specs.declared.Verdict.the-variants.{Accepted, Refused}
 use Rattle.layout.proofs.Laws.{Wide}
 use Rattle.format.specs.Edition.{Edition, one, noCheck, tailOf, edition}
 use Rattle.format.specs.Sealed.{filled, headFor, blockFor, sealed, opened, checks, fillZero}
 use Rattle.format.specs.Judge.{Keys, judge, either, ofEdition, ofBoth, fresh, advanced, taken, BlockReader}
 use Rattle.tally.specs.Tally.{stopNumber}
 use Rattle.turns.specs.Turn.{Reading, readBlocks, cut, handled}
-use Rattle.writer.specs.Calls.{writeNumber, writeOutput, writeAnswer, lastFor, blockOf}
-use Rattle.image.specs.Calls.{startOf, keysOf, blocksBy, turnOf, completionOf}
-use Rattle.writer.specs.declared.WriteAnswer.{WriteAnswer}
-use Rattle.writer.specs.declared.WriteAnswer.the-variants.{Written, WriteKey, WriteCount, WriteNumber, WriteLength, WriteEdition, WriteRoom}
-use Rattle.writer.specs.declared.Numbers.{Numbers}
-use Rattle.image.specs.declared.Reader.{Reader}
+use Rattle.write_answers.specs.Answers.{writeNumber, lastFor}
+use Rattle.writer.specs.Calls.{writeOutput, writeAnswer, blockOf}
+use Rattle.reader.specs.Calls.{startOf, completionOf}
+use Rattle.image.specs.Calls.{keysOf, blocksBy, turnOf}
+use Rattle.write_answers.specs.declared.WriteAnswer.{WriteAnswer}
+use Rattle.write_answers.specs.declared.WriteAnswer.the-variants.{Written, WriteKey, WriteCount, WriteNumber, WriteLength, WriteEdition, WriteRoom}
+use Rattle.write_answers.specs.declared.Numbers.{Numbers}
+use Rattle.reader.specs.declared.Reader.{Reader}
 use Rattle.tally.specs.declared.Stop.{Stop}
 use Rattle.tally.specs.declared.Stop.the-variants.{End, Asked, Lent, Room, At}
-use Rattle.image.specs.declared.Turn.{Turn}
-use Rattle.image.specs.declared.Completion.the-variants.{Complete, NotComplete}
+use Rattle.reader.specs.declared.Turn.{Turn}
+use Rattle.reader.specs.declared.Completion.the-variants.{Complete, NotComplete}
 use Rattle.promises.proofs.ImageTerms.{Proper, SealedOn, Met, Row, Says, unchecked, AllMet, Blocks, payload, plains, parts, AllFilled, Fit, WriteSays, afterWrite, Wrote, blocks, image, inState, readerOf, Waits, moved, FromStart, Sound, readingOf, given, Fair, StartSays, StopSays, CompletionSays, Whole, Lending, AllFair, offered, concat, lendEach, AllFew, readerAfter, AllAccepted, handedOut, counted, andThen}
 use Rattle.promises.proofs.Keys.{KeyTaken}
 use Rattle.promises.proofs.Lemmas.ImageSealed.{sealed-size, sealed-bytes, sealed-checks, sealed-opened, sealed-head, sealed-fill}

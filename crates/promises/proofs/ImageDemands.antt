@@ -12,10 +12,11 @@ use Rattle.schedule.specs.Schedule.{keyNumber}
 use Rattle.lookups.specs.Lookups.{tableCipher}
 use Rattle.sp800_38b.specs.Cmac.{SameOutside}
 use Rattle.limits.specs.Marks.{selected}
-use Rattle.header.specs.Rules.{closed, verdictNumber}
-use Rattle.header.specs.declared.Progress.{Progress}
-use Rattle.header.specs.declared.Reason.the-variants.{AfterLast, CheckWrong}
-use Rattle.header.specs.declared.Reason.{Reason}
+use Rattle.reasons.specs.Reasons.{verdictNumber}
+use Rattle.progress.specs.Progress.{closed}
+use Rattle.progress.specs.declared.Progress.{Progress}
+use Rattle.reasons.specs.declared.Reason.the-variants.{AfterLast, CheckWrong}
+use Rattle.reasons.specs.declared.Reason.{Reason}
 use Rattle.layout.specs.Layout.{headOf}
 use Rattle.format.specs.Edition.{Edition}
 use Rattle.format.specs.Sealed.{filled}
@@ -25,36 +26,38 @@ use Rattle.format.specs.Lent.{usable, lentMac, lentKeys, isBlock, openedOver, s
 use Rattle.format.proofs.Sizes.{mac-sized}
 use Rattle.format.proofs.Judging.{checks-none, verdict-read, head-read}
 use Rattle.format.proofs.Opening.{fill-of-none}
-use Rattle.writer.specs.Calls.{writeNumber, writeOutput, lastFor}
-use Rattle.image.specs.Calls.{keysOf, turnAfter, turnOf, completionNumber}
+use Rattle.write_answers.specs.Answers.{writeNumber, lastFor}
+use Rattle.writer.specs.Calls.{writeOutput}
+use Rattle.reader.specs.Calls.{completionNumber}
+use Rattle.image.specs.Calls.{keysOf, turnAfter, turnOf}
 use Rattle.tally.specs.Tally.{stopNumber}
 use Rattle.turns.specs.Turn.{handled}
 use Rattle.tally.specs.declared.BlocksRead.{BlocksRead}
-use Rattle.writer.specs.declared.WriteAnswer.{WriteAnswer}
-use Rattle.image.specs.declared.Reader.{Reader}
-use Rattle.image.specs.declared.ReadStarted.{ReadStarted}
+use Rattle.write_answers.specs.declared.WriteAnswer.{WriteAnswer}
+use Rattle.reader.specs.declared.Reader.{Reader}
+use Rattle.reader.specs.declared.ReadStarted.{ReadStarted}
 use Rattle.tally.specs.declared.Stop.the-variants.{End, At}
-use Rattle.image.specs.declared.Turn.{Turn}
+use Rattle.reader.specs.declared.Turn.{Turn}
 use Rattle.promises.proofs.Keys.{KeyTaken}
 use Rattle.promises.proofs.ImageTerms.{Row, Says, AllMet, Fit, WriteSays, StartSays, StopSays, CompletionSays, Fair, Wrote, SealedOn, Waits, moved, Whole, given, readerOf}
 use Rattle.promises.proofs.Image.{verdict-as-told, verdict-done, write-answer-as-told, fit-is-written, start-says, start-takes, refused-start-gives-zeros, turn-stop-as-told, turn-ends, completion-as-told, completed, written-is-read, damaged-ends-a-turn, other-build-ends-a-turn, write-refusal-keeps, turn-refusal-keeps}
-use Rattle.blocks.proofs.equal.Reads as equal
+use Rattle.comparing.proofs.equal.Reads as equal
 use Rattle.layout.proofs.head_of.Reads as head-of
 use Rattle.layout.proofs.head_bytes.Reads as head-bytes
-use Rattle.header.proofs.complete.Reads as complete
-use Rattle.header.proofs.closed.Reads as is-closed
+use Rattle.progress.proofs.complete.Reads as complete
+use Rattle.progress.proofs.closed.Reads as is-closed
 use Rattle.limits.proofs.count_fits.Reads as count-fits
 use Rattle.limits.proofs.length_fits.Reads as length-fits
 use Rattle.limits.proofs.is_edition.Reads as is-edition
 use Rattle.limits.proofs.selected.Reads as is-selected
 use Rattle.limits.proofs.mark_of.Reads as mark-of
 use Rattle.limits.proofs.tail_size.Reads as tail-size
-use Rattle.header.proofs.mark_for.Reads as mark-for
+use Rattle.progress.proofs.mark_for.Reads as mark-for
 use Rattle.header.proofs.judge_head.Reads as judge-head
 use Rattle.checking.proofs.check_of.Reads as check-of
 use Rattle.checking.proofs.check_holds.Reads as check-holds
 use Rattle.format.proofs.both_taken.Reads as both-taken
-use Rattle.opening.proofs.fill_is_zero.Reads as fill-is-zero
+use Rattle.fill.proofs.fill_is_zero.Reads as fill-is-zero
 use Rattle.judging.proofs.judge.Reads as judge
 use Rattle.opening.proofs.open_block.Reads as open-block
 use Rattle.seal.proofs.seal.Reads as seal
@@ -62,9 +65,11 @@ use Rattle.tally.proofs.blocks_read.Reads as blocks-read
 use Rattle.tally.proofs.may_ask.Reads as may-ask
 use Rattle.tally.proofs.goes_on.Reads as goes-on
 use Rattle.tally.proofs.step.Reads as step
-use Rattle.image.proofs.read_start.Reads as read-start
-use Rattle.image.proofs.read_complete.Reads as read-complete
+use Rattle.reader.proofs.read_start.Reads as read-start
+use Rattle.reader.proofs.read_complete.Reads as read-complete
 use Rattle.writer.proofs.write.Reads as write
+use Rattle.write_answers.proofs.judge_write.Reads as judge-write
+use Rattle.write_answers.proofs.last_for.Reads as last-for
 use Rattle.image.proofs.read_turn.Reads as read-turn
 use Rattle.turns.proofs.turn.Reads as turn
 
@@ -236,6 +241,18 @@ module _ (κs : _) (a : _) (r : _) (s : _) (p : judge.Post κs a r s) where
   judge-reads-the-header e = head-read lent (a .1 .1 .1 .1 .1 .1 .1 .1 .0) (now (a .1 .1 .1 .1 .1 .1 .1 .1 .1 .0)) r p e
 
 -- ---- demand 1 for what a turn has done
+
+pub judge-write-asks-nothing : (κs : _) (a : _) → judge-write.Asked κs a
+judge-write-asks-nothing κs a = tt
+
+pub judge-write-determined : (κs : _) (a : _) (r r′ : _) (s s′ : _) → judge-write.Post κs a r s → judge-write.Post κs a r′ s′ → r ≡ r′
+judge-write-determined κs a r r′ s s′ p q = p ∙ sym q
+
+pub last-for-asks-nothing : (κs : _) (a : _) → last-for.Asked κs a
+last-for-asks-nothing κs a = tt
+
+pub last-for-determined : (κs : _) (a : _) (r r′ : _) (s s′ : _) → last-for.Post κs a r s → last-for.Post κs a r′ s′ → r ≡ r′
+last-for-determined κs a r r′ s s′ p q = p ∙ sym q
 
 pub blocks-read-asks-nothing : (κs : _) (a : _) → blocks-read.Asked κs a
 blocks-read-asks-nothing κs a = tt

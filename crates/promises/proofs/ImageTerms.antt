@@ -11,28 +11,30 @@ use Rattle.schedule.specs.declared.KeyAnswer.the-variants.{Taken, KeyLength}
 use Rattle.layout.specs.Layout.{headOf}
 use Rattle.limits.specs.Fits.{lengthFits}
 use Rattle.limits.specs.Marks.{isEdition}
-use Rattle.header.specs.Rules.{closed}
+use Rattle.progress.specs.Progress.{closed}
 use Rattle.layout.specs.declared.Head.{Head}
-use Rattle.header.specs.declared.Progress.{Progress}
-use Rattle.header.specs.declared.Reason.{Reason}
-use Rattle.header.specs.declared.Reason.the-variants.{AfterLast, CheckWrong, Count, Number, OtherCount, OtherRelease, Length, Reserved, FillNotZero}
-use Rattle.header.specs.declared.Verdict.{Verdict}
-use Rattle.header.specs.declared.Verdict.the-variants.{Accepted, Refused}
+use Rattle.progress.specs.declared.Progress.{Progress}
+use Rattle.reasons.specs.declared.Reason.{Reason}
+use Rattle.reasons.specs.declared.Reason.the-variants.{AfterLast, CheckWrong, Count, Number, OtherCount, OtherRelease, Length, Reserved, FillNotZero}
+use Rattle.reasons.specs.declared.Verdict.{Verdict}
+use Rattle.reasons.specs.declared.Verdict.the-variants.{Accepted, Refused}
 use Rattle.format.specs.Edition.{Edition, noCheck, tailOf}
 use Rattle.format.specs.Sealed.{filled, blockFor, opened, checks, fillZero}
 use Rattle.format.specs.Judge.{Keys, Rule, either, taken}
 use Rattle.turns.specs.Turn.{Reading, cut, handled, readingBy}
-use Rattle.writer.specs.Calls.{writeAnswer, writeOutput, lastFor}
-use Rattle.image.specs.Calls.{startOf, keysOf, turnOf}
-use Rattle.writer.specs.declared.WriteAnswer.{WriteAnswer}
-use Rattle.writer.specs.declared.WriteAnswer.the-variants.{Written, WriteKey, WriteCount, WriteNumber, WriteLength, WriteEdition, WriteRoom}
-use Rattle.writer.specs.declared.Numbers.{Numbers}
-use Rattle.image.specs.declared.Reader.{Reader}
+use Rattle.write_answers.specs.Answers.{lastFor}
+use Rattle.writer.specs.Calls.{writeAnswer, writeOutput}
+use Rattle.reader.specs.Calls.{startOf}
+use Rattle.image.specs.Calls.{keysOf, turnOf}
+use Rattle.write_answers.specs.declared.WriteAnswer.{WriteAnswer}
+use Rattle.write_answers.specs.declared.WriteAnswer.the-variants.{Written, WriteKey, WriteCount, WriteNumber, WriteLength, WriteEdition, WriteRoom}
+use Rattle.write_answers.specs.declared.Numbers.{Numbers}
+use Rattle.reader.specs.declared.Reader.{Reader}
 use Rattle.tally.specs.declared.Stop.{Stop}
 use Rattle.tally.specs.declared.Stop.the-variants.{End, Asked, Lent, Room, At}
-use Rattle.image.specs.declared.Turn.{Turn}
-use Rattle.image.specs.declared.Completion.{Completion}
-use Rattle.image.specs.declared.Completion.the-variants.{Complete, NotComplete}
+use Rattle.reader.specs.declared.Turn.{Turn}
+use Rattle.reader.specs.declared.Completion.{Completion}
+use Rattle.reader.specs.declared.Completion.the-variants.{Complete, NotComplete}
 pub use Rattle.promises.proofs.Keys.{KeyTaken}
 
 -- ---- editions

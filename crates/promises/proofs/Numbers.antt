@@ -2,12 +2,12 @@
 use mathlib.Core.Path.{_≡_, sym, _∙_}
 use Rattle.schedule.proofs.KeyAnswer.number.Reads as key-number
 use Rattle.mode_answers.proofs.ModeAnswer.number.Reads as mode-number
-use Rattle.wrap.proofs.WrapAnswer.number.Reads as wrap-number
-use Rattle.writer.proofs.WriteAnswer.number.Reads as write-number
+use Rattle.wrap_answers.proofs.WrapAnswer.number.Reads as wrap-number
+use Rattle.write_answers.proofs.WriteAnswer.number.Reads as write-number
 use Rattle.tally.proofs.Stop.number.Reads as stop-number
-use Rattle.image.proofs.Completion.number.Reads as completion-number
-use Rattle.header.proofs.Reason.number.Reads as reason-number
-use Rattle.header.proofs.Reason.value.Reads as reason-value
+use Rattle.reader.proofs.Completion.number.Reads as completion-number
+use Rattle.reasons.proofs.Reason.number.Reads as reason-number
+use Rattle.reasons.proofs.Reason.value.Reads as reason-value
 
 pub key-number-asks-nothing : (κs : _) (a : _) → key-number.Asked κs a
 key-number-asks-nothing κs a = tt

@@ -12,13 +12,15 @@ use Rattle.octets.specs.Octets.{choose}
 use Rattle.layout.specs.Layout.{checkAt, headOf}
 use Rattle.limits.specs.Fits.{countFits, lengthFits}
 use Rattle.limits.specs.Marks.{selected}
-use Rattle.header.specs.Rules.{firstOf, done, closed, headTests, reasonNumber, reasonValue}
+use Rattle.reasons.specs.Reasons.{firstOf, reasonNumber, reasonValue}
+use Rattle.progress.specs.Progress.{done, closed}
+use Rattle.header.specs.Rules.{headTests}
 use Rattle.layout.specs.declared.Head.{Head}
-use Rattle.header.specs.declared.Progress.{Progress}
-use Rattle.header.specs.declared.Reason.{Reason}
-use Rattle.header.specs.declared.Reason.the-variants.{AfterLast, CheckWrong, Count, Number, OtherCount, OtherRelease, Length, Reserved, FillNotZero}
-use Rattle.header.specs.declared.Verdict.{Verdict}
-use Rattle.header.specs.declared.Verdict.the-variants.{Accepted, Refused}
+use Rattle.progress.specs.declared.Progress.{Progress}
+use Rattle.reasons.specs.declared.Reason.{Reason}
+use Rattle.reasons.specs.declared.Reason.the-variants.{AfterLast, CheckWrong, Count, Number, OtherCount, OtherRelease, Length, Reserved, FillNotZero}
+use Rattle.reasons.specs.declared.Verdict.{Verdict}
+use Rattle.reasons.specs.declared.Verdict.the-variants.{Accepted, Refused}
 use Rattle.header.proofs.Laws.{number-below}
 use Rattle.format.specs.Edition.{Edition, noCheck}
 use Rattle.format.specs.Sealed.{checks, fillZero}

@@ -10,14 +10,14 @@ use lib.ListN.{length}
 use lib.Seq.{paste, paste-zero}
 use Rattle.places.specs.Hex.{hexWord}
 use Rattle.places.specs.Places.{fits, placed}
-use Rattle.digits.specs.Hex.{isBytes, unhex, bytesOf, decodeAnswer}
-use Rattle.digits.specs.declared.Decoded.the-variants.{End, Bad}
+use Rattle.hex.specs.Hex.{isBytes, unhex, bytesOf, decodeAnswer}
+use Rattle.hex.specs.declared.Decoded.the-variants.{End, Bad}
 use Rattle.lines.proofs.part.Reads as part
 use Rattle.lines.proofs.find.Reads as find
 use Rattle.lines.proofs.count.Reads as count
 use Rattle.lines.proofs.word.Reads as word
-use Rattle.digits.proofs.decode.Reads as decode
-use Rattle.digits.proofs.decimal.Reads as decimal
+use Rattle.hex.proofs.decode.Reads as decode
+use Rattle.numbers.proofs.decimal.Reads as decimal
 use Rattle.places.proofs.put.Reads as put
 use Rattle.places.proofs.put_hex.Reads as put-hex
 

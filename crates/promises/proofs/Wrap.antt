@@ -10,11 +10,11 @@ use Rattle.octets.specs.Octets.{Bytes, Octets}
 use Rattle.octets.specs.Blocks.{BlockCipher, Lawful}
 use Rattle.fips197.specs.Cipher.{aesOf}
 use Rattle.fips197.proofs.Aes.{key-lawful}
-use Rattle.registers.specs.Wrap.{initial, register, step, pass, passes, wrapped, unstep, unpass, unpasses, unwrapped}
-use Rattle.registers.specs.Sizes.{wrappedSizeFits}
-use Rattle.wrap.specs.Calls.{wrapNumber, sizeFits, wrapAnswer, unwrapAnswer, wrapOutput, unwrapOutput}
-use Rattle.wrap.specs.declared.WrapAnswer.{WrapAnswer}
-use Rattle.wrap.specs.declared.WrapAnswer.the-variants.{WrapDone, WrapKey, WrapSize, WrapRoom, WrongInitial}
+use Rattle.rfc3394.specs.Wrap.{initial, register, step, pass, passes, wrapped, unstep, unpass, unpasses, unwrapped}
+use Rattle.wrap_answers.specs.Answers.{wrappedSizeFits, wrapNumber, sizeFits}
+use Rattle.wrap.specs.Calls.{wrapAnswer, unwrapAnswer, wrapOutput, unwrapOutput}
+use Rattle.wrap_answers.specs.declared.WrapAnswer.{WrapAnswer}
+use Rattle.wrap_answers.specs.declared.WrapAnswer.the-variants.{WrapDone, WrapKey, WrapSize, WrapRoom, WrongInitial}
 use Rattle.promises.proofs.Keys.{KeyTaken}
 use Rattle.promises.proofs.WrapTerms.{afterWrap, afterUnwrap, WrapFit, WrapSays, UnwrapFit, UnwrapSays, WrappingOf}
 use Rattle.promises.proofs.Lemmas.WrapLaws.{step-octets, unstep-octets, unstep-step, step-unstep, pass-octets, unpass-octets, unpass-pass, pass-unpass, passes-octets, unpasses-octets, unpasses-passes, passes-unpasses, wrapped-octets, unwrapped-wrapped, opened-octets, wrapped-unwrapped, size-rule, rule-size, wrapped-size-rule, rule-wrapped-size, size-wraps, size-unwraps, wrap-says, unwrap-says, wrap-fits, unwrap-fits, done-fits, wrap-keeps, unwrap-keeps, over-first}

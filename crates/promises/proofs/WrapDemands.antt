@@ -8,17 +8,20 @@ use native.Mathlib.Omega.{arith}
 use lib.ListN.{length, take, drop}
 use Rattle.octets.specs.Octets.{Bytes}
 use Rattle.fips197.specs.Cipher.{aesOf}
-use Rattle.registers.specs.Wrap.{wrapped}
-use Rattle.wrap.specs.Calls.{wrapNumber, wrapOutput, unwrapAnswer, unwrapOutput}
-use Rattle.wrap.specs.declared.WrapAnswer.{WrapAnswer}
-use Rattle.wrap.specs.declared.WrapAnswer.the-variants.{WrapDone, WrapKey, WrapSize, WrapRoom, WrongInitial}
+use Rattle.rfc3394.specs.Wrap.{wrapped}
+use Rattle.wrap_answers.specs.Answers.{wrapNumber, wrappedSizeFits}
+use Rattle.wrap.specs.Calls.{wrapOutput, unwrapAnswer, unwrapOutput}
+use Rattle.wrap_answers.specs.declared.WrapAnswer.{WrapAnswer}
+use Rattle.wrap_answers.specs.declared.WrapAnswer.the-variants.{WrapDone, WrapKey, WrapSize, WrapRoom, WrongInitial}
 use Rattle.promises.proofs.Keys.{KeyTaken}
 use Rattle.promises.proofs.WrapTerms.{afterWrap, afterUnwrap, WrapFit, WrapSays, UnwrapFit, UnwrapSays, WrappingOf}
 use Rattle.promises.proofs.Lemmas.WrapLaws.{wrap-keeps, unwrap-keeps}
 use Rattle.promises.proofs.Wrap.{wrap-answer-as-told, unwrap-answer-as-told, wrap-never-19, fit-is-wrapped, fit-is-unwrapped, key-data-is-wrapped, unwrap-after-wrap, accepted-exactly-wrappings, accepted-is-handed-out}
-use Rattle.registers.specs.Sizes.{wrappedSizeFits, passedOver, unpassedOver}
-use Rattle.registers.proofs.wrapped_size_fits.Reads as wrapped-size-fits
-use Rattle.registers.proofs.is_initial.Reads as is-initial
+use Rattle.registers.specs.Registers.{passedOver, unpassedOver}
+use Rattle.wrap_answers.proofs.wrapped_size_fits.Reads as wrapped-size-fits
+use Rattle.wrap_answers.proofs.is_initial.Reads as is-initial
+use Rattle.wrap_answers.proofs.judge_wrap.Reads as judge-wrap
+use Rattle.wrap_answers.proofs.judge_unwrap.Reads as judge-unwrap
 use Rattle.registers.proofs.passes.Reads as passes
 use Rattle.registers.proofs.unpasses.Reads as unpasses
 use Rattle.wrap.proofs.wrap.Reads as wrap
@@ -37,6 +40,18 @@ is-initial-asks-nothing κs a = tt
 
 pub is-initial-determined : (κs : _) (a : _) (r r′ : _) (s s′ : _) → is-initial.Post κs a r s → is-initial.Post κs a r′ s′ → r ≡ r′
 is-initial-determined κs a r r′ s s′ p q = p ∙ sym q
+
+pub judge-wrap-asks-nothing : (κs : _) (a : _) → judge-wrap.Asked κs a
+judge-wrap-asks-nothing κs a = tt
+
+pub judge-wrap-determined : (κs : _) (a : _) (r r′ : _) (s s′ : _) → judge-wrap.Post κs a r s → judge-wrap.Post κs a r′ s′ → r ≡ r′
+judge-wrap-determined κs a r r′ s s′ p q = p ∙ sym q
+
+pub judge-unwrap-asks-nothing : (κs : _) (a : _) → judge-unwrap.Asked κs a
+judge-unwrap-asks-nothing κs a = tt
+
+pub judge-unwrap-determined : (κs : _) (a : _) (r r′ : _) (s s′ : _) → judge-unwrap.Post κs a r s → judge-unwrap.Post κs a r′ s′ → r ≡ r′
+judge-unwrap-determined κs a r r′ s s′ p q = p ∙ sym q
 
 pub passes-asks-nothing : (κs : _) (a : _) → passes.Asked κs a
 passes-asks-nothing κs a = tt

@@ -6,11 +6,11 @@ use Prim.Native.Nat.{ℕ, _+_, _≤_, _<_}
 use lib.ListN.{length}
 use Rattle.octets.specs.Octets.{Bytes}
 use Rattle.fips197.specs.Cipher.{aesOf}
-use Rattle.registers.specs.Wrap.{initial, register, wrapped, unwrapped}
-use Rattle.registers.specs.Sizes.{wrappedSizeFits}
-use Rattle.wrap.specs.Calls.{sizeFits, wrapAnswer, wrapOutput, unwrapAnswer, unwrapOutput}
-use Rattle.wrap.specs.declared.WrapAnswer.{WrapAnswer}
-use Rattle.wrap.specs.declared.WrapAnswer.the-variants.{WrapDone, WrapKey, WrapSize, WrapRoom, WrongInitial}
+use Rattle.rfc3394.specs.Wrap.{initial, register, wrapped, unwrapped}
+use Rattle.wrap_answers.specs.Answers.{wrappedSizeFits, sizeFits}
+use Rattle.wrap.specs.Calls.{wrapAnswer, wrapOutput, unwrapAnswer, unwrapOutput}
+use Rattle.wrap_answers.specs.declared.WrapAnswer.{WrapAnswer}
+use Rattle.wrap_answers.specs.declared.WrapAnswer.the-variants.{WrapDone, WrapKey, WrapSize, WrapRoom, WrongInitial}
 use Rattle.promises.proofs.Keys.{KeyTaken}
 
 -- the outputs after the two calls

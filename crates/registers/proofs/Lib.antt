@@ -1,4 +1,2 @@
 pub mod Places
 pub mod Sizes
-pub mod Passing
-pub mod Agree

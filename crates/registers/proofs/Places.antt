@@ -1,19 +1,17 @@
 -- The registers, by what is written where. Assumes nothing.
 use mathlib.Core.Path.{_≡_, refl, sym, ap, ap₂, _∙_}
-use mathlib.Core.Bool.{Bool, true, false, _&&_}
 use mathlib.Core.List.{List, [], _∷_, _++_, append-nil, append-assoc}
 use Prim.Native.Nat.{ℕ, zero, suc, _+_, _-_, _*_, _/_, _%_, _≤_, _<_}
 use native.Mathlib.Omega.{arith}
-use lib.Dec.{eqb}
-use lib.ListN.{length, getD, take, drop, set, replicate, length-drop, getD-replicate, drop-of-length-le}
-use lib.Seq.{paste, take-all, take-take, take-add, drop-at, drop-drop, getD-take, take-append-add, drop-append-add, length-take-le}
-use Rattle.octets.specs.Octets.{xor, same}
+use lib.ListN.{length, getD, take, drop, set, replicate, length-drop, drop-of-length-le}
+use lib.Seq.{paste, take-all, take-take, take-add, drop-at, drop-drop, take-append-add, drop-append-add, length-take-le}
+use Rattle.octets.specs.Octets.{xor}
 use Rattle.octets.specs.Words.{bytesOf}
 use Rattle.octets.specs.Blocks.{_⊕_}
 use Rattle.octets.proofs.Xor.{xor-zero}
 use Rattle.blocks.specs.Blocks.{blockAt}
-use Rattle.blocks.proofs.Laws.{block-at, same-step, same-differ, same-end}
-use Rattle.registers.specs.Wrap.{initial, counter, register, replaced, msb, lsb}
+use Rattle.blocks.proofs.Laws.{block-at}
+use Rattle.rfc3394.specs.Wrap.{counter, register, replaced, msb, lsb}
 
 -- ---- lists
 
@@ -73,31 +71,3 @@ put-by w i b hi hw e =
     rw (front, rest, half)
     (append-assoc (take 8 b ++ drop 8 (take (8 * i) w)) (drop 8 b) (drop (8 * i + 8) w)
     ∙ append-assoc (take 8 b) (drop 8 (take (8 * i) w)) (drop 8 b ++ drop (8 * i + 8) w))
-
--- ---- A compared with the initial value, from the place k on
-
-short-differs : (a b : List ℕ) → length a < length b → false ≡ same a b
-short-differs [] [] h = absurd (omega arith)
-short-differs [] (y ∷ b) h = refl
-short-differs (x ∷ a) [] h = absurd (omega arith)
-short-differs (x ∷ a) (y ∷ b) h = short-differs a b (omega arith) ∙ sym (none (eqb x y) (same a b) (sym (short-differs a b (omega arith))))
-  where
-    none : (p q : Bool) → q ≡ false → (p && q) ≡ q
-    none true q e = refl
-    none false q e = sym e
-
-pub initial-short : (w : List ℕ) → length w < 8 → false ≡ same (take 8 w) initial
-initial-short w h = short-differs (take 8 w) initial (omega (arith, ap length (take-all 8 w (omega arith))))
-
-module _ (w : List ℕ) (h : 8 ≤ length w) (k : ℕ) where
-  size : length (take 8 w) ≡ 8
-  size = length-take-le 8 w h
-
-  pub initial-step : k < 8 → getD w k 0 ≡ 0xa6 → same (drop (k + 1) (take 8 w)) (drop (k + 1) initial) ≡ same (drop k (take 8 w)) (drop k initial)
-  initial-step l e = same-step (take 8 w) initial k (omega (arith, size)) (omega arith) (getD-take 8 w k 0 l ∙ e ∙ sym (getD-replicate 8 k 0xa6 0 l))
-
-  pub initial-differs : k < 8 → (getD w k 0 ≡ 0xa6 → ⊥) → false ≡ same (drop k (take 8 w)) (drop k initial)
-  initial-differs l n = same-differ (take 8 w) initial k (omega (arith, size)) (omega arith) (λ e. n (sym (getD-take 8 w k 0 l) ∙ e ∙ getD-replicate 8 k 0xa6 0 l))
-
-  pub initial-end : 8 ≤ k → true ≡ same (drop k (take 8 w)) (drop k initial)
-  initial-end l = same-end (take 8 w) initial k (omega (arith, size)) (omega arith)

@@ -1,29 +1,16 @@
--- What the rule on lengths says, and the passes over registers of a length in it. Assumes nothing.
-use mathlib.Core.Path.{_≡_, refl}
-use mathlib.Core.Bool.{Bool, true, false, _&&_}
+-- The passes over registers of a length in the rule. Assumes nothing.
+use mathlib.Core.Path.{_≡_}
+use mathlib.Core.Bool.{true, false}
 use mathlib.Core.List.{List}
 use Prim.Native.Nat.{ℕ, _-_, _*_, _/_, _%_, _≤_, _<_}
 use native.Mathlib.Nat.{mul-le-mul-right}
 use native.Mathlib.Omega.{arith}
-use borrow.Author.Tests.{leb-true, eqb-true, le-leb}
-use lib.Dec.{eqb, leb}
 use lib.ListN.{length}
 use Rattle.octets.specs.Blocks.{BlockCipher}
-use Rattle.registers.specs.Wrap.{passes, unwrapped}
-use Rattle.registers.specs.Sizes.{wrappedSizeFits, passedOver, unpassedOver}
-
-pub all-three : (a b c : Bool) → (a && (b && c)) ≡ true → (a ≡ true) × (b ≡ true) × (c ≡ true)
-all-three true true c e = (refl, refl, e)
-all-three true false c e = let y : _≡_ {A = ℕ} 0 1 = cc in absurd (omega arith)
-all-three false b c e = let y : _≡_ {A = ℕ} 0 1 = cc in absurd (omega arith)
-
-pub wrapped-size-parts : (n : ℕ) → wrappedSizeFits n ≡ true → (24 ≤ n) × (n ≤ 72) × (n % 8 ≡ 0)
-wrapped-size-parts n e =
-    let t = all-three (leb 24 n) (leb n 72) (eqb (n % 8) 0) e in
-    (leb-true 24 n (t .0), leb-true n 72 (t .1), eqb-true (n % 8) 0 (t .2))
-
-wrapped-size-right : (n : ℕ) → 24 ≤ n → n ≤ 72 → n % 8 ≡ 0 → wrappedSizeFits n ≡ true
-wrapped-size-right n l h e = rw (le-leb 24 n l, le-leb n 72 h, e)
+use Rattle.rfc3394.specs.Wrap.{passes, unwrapped}
+use Rattle.wrap_answers.specs.Answers.{wrappedSizeFits}
+use Rattle.wrap_answers.proofs.Sizes.{wrapped-size-right}
+use Rattle.registers.specs.Registers.{passedOver, unpassedOver}
 
 -- a step number is at most 40 and 8 more, hence one byte
 pub product-fits : (n j : ℕ) → n ≤ 8 → j < 6 → n * j ≤ 40

@@ -6,7 +6,7 @@ ghost use Prim.Native.Nat.{_+_, _*_, _≤_, _<_};
 ghost use lib.ListN.{length, drop};
 ghost use lib.Seq.{paste};
 ghost use Rattle.octets.specs.Blocks.{_⊕_};
-ghost use Rattle.registers.specs.Wrap.{counter, register, replaced, msb, lsb};
+ghost use Rattle.rfc3394.specs.Wrap.{counter, register, replaced, msb, lsb};
 
 // A and R[i] side by side: what the block cipher is given.
 pub fn pair(w: &[u8], i: usize) -> [u8; 16]

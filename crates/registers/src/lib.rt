@@ -6,41 +6,13 @@ use crate::halves::pair;
 use crate::halves::put_back;
 use rounds::decrypt_block;
 use rounds::encrypt_block;
+use wrap_answers::wrapped_size_fits;
 ghost use mathlib.Core.Path.{_≡_};
 ghost use Prim.Native.Nat.{_+_, _*_, _≤_, _<_};
 ghost use lib.ListN.{length};
-ghost use Rattle.octets.specs.Octets.{same};
 ghost use Rattle.lookups.specs.Lookups.{oneTable};
-ghost use Rattle.registers.specs.Wrap as spec;
-ghost use Rattle.registers.specs.Sizes.{wrappedSizeFits, passedOver, unpassedOver};
-
-// Whether wrapped data, and so the registers together, may have this length.
-pub fn wrapped_size_fits(len: usize) -> bool
-    ensures { λ r. ⌜ r ≡ wrappedSizeFits len ⌝ }
-{
-    if len < 24 {
-        return false;
-    }
-    if len > 72 {
-        return false;
-    }
-    len % 8 == 0
-}
-
-// Whether A is the initial value, in all its eight bytes.
-pub fn is_initial(w: &[u8]) -> bool
-    ensures { λ r. ⌜ r ≡ same (spec.register (now (w .entry)) 0) spec.initial ⌝ }
-{
-    if w.len() < 8 {
-        return false;
-    }
-    for at in 0..8 {
-        if w[at] != 0xa6 {
-            return false;
-        }
-    }
-    true
-}
+ghost use Rattle.rfc3394.specs.Wrap as spec;
+ghost use Rattle.registers.specs.Registers.{passedOver, unpassedOver};
 
 // For j = 0 to 5. Registers of no size in the rule stay as they are.
 pub fn passes(table: &[u32; 256], words: &[u32; 60], rounds: usize, w: &mut [u8])

@@ -1,6 +1,6 @@
 // The line on standard output that says whether an image is complete, and what stands in it.
-use header::Progress;
 use libc::STDOUT_FILENO;
+use progress::Progress;
 
 // What the line says of an image: its edition, release and blocks, and the bytes of their payload.
 pub struct Told {

@@ -4,9 +4,9 @@ use crate::clock;
 use crate::input;
 use crate::keep;
 use crate::line;
-use image::ReadStarted;
-use image::Reader;
 use line::Told;
+use reader::ReadStarted;
+use reader::Reader;
 
 type Blocks = [u8; 65536];
 
@@ -151,7 +151,7 @@ fn told(reader: Reader, bytes: u64) -> Told {
 
 // The whole input was accepted: 17 where it ends before the last block.
 fn ended(reader: Reader, bytes: u64, to: i32) {
-    let answer = image::read_complete(reader).number();
+    let answer = reader::read_complete(reader).number();
     if answer != 0 {
         refused(reader, bytes, answer);
         return;
@@ -186,7 +186,7 @@ fn report(r: Reading, to: i32) {
 }
 
 fn started(keys: &[u8]) -> ReadStarted {
-    image::read_start(input::encryption_key(keys), input::check_key(keys))
+    reader::read_start(input::encryption_key(keys), input::check_key(keys))
 }
 
 // The keys have a size that is taken, so their answer is not looked at.

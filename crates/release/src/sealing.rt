@@ -5,9 +5,9 @@ use crate::keep;
 use crate::line;
 use crate::tell;
 use cut::Counted;
-use digits::Number;
 use line::Told;
-use writer::Numbers;
+use numbers::Number;
+use write_answers::Numbers;
 ghost use Prim.Native.Nat.{_≤_, _<_};
 
 type Blocks = [u8; 65536];
@@ -89,7 +89,7 @@ fn seal_block(
         cut::block_part(payload, j),
         &mut block,
     );
-    blocks::copy(&block, blocks, j * 512);
+    slices::copy(&block, blocks, j * 512);
     Sealed {
         next: after(next),
         last: blocks::load(&block, 496),
@@ -260,7 +260,7 @@ fn too_long() {
 fn number(i: usize, most: u64) -> Number {
     let mut word = [0u8; 32];
     let n = os::arg(i, &mut word);
-    digits::decimal(&word[..n], most)
+    numbers::decimal(&word[..n], most)
 }
 
 fn seal_job(keys: &[u8], job: Job) {

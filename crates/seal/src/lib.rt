@@ -1,11 +1,11 @@
 // One block of an image sealed, with the table and schedules lent that its ciphers look up in.
-use blocks::copy;
 use blocks::store;
 use checking::check_of;
 use format::Rounds;
 use layout::Head;
 use layout::head_bytes;
 use rounds::encrypt_block;
+use slices::copy;
 use sp800_38a::Operation;
 ghost use mathlib.Core.Path.{_≡_};
 ghost use Prim.Native.Nat.{_≤_};

@@ -1,7 +1,7 @@
 // A state of four columns, each a word: a block loaded and stored, and the steps of a round of FIPS 197 by lookups in a table of words.
 use lookups::Columns;
+use mixing::mix_column;
 use words::join;
-use words::mix_column;
 use words::sub_column;
 use words::sub_mix_column;
 use words::word_bytes;

@@ -11,7 +11,7 @@ use Rattle.field.specs.Field.{xTimes, productWithin, _•_}
 use Rattle.sbox.specs.Sbox.{sBox, invSBox}
 use Rattle.sbox.proofs.Lists.{sBoxTable, invSBoxTable}
 use Rattle.sbox.proofs.Laws.{sBox-rule, invSBox-rule}
-use Rattle.words.specs.Columns.{row, column, mixColumn, invMixColumn, mixedEntry, invMixedEntry}
+use Rattle.mixing.specs.Mixing.{row, column, mixColumn, invMixColumn, mixedEntry, invMixedEntry}
 use Rattle.tables.specs.Tables.{forwardTable, inverseTable}
 use Rattle.tables.proofs.Lists.{forwardList, inverseList}
 

@@ -3,7 +3,7 @@ use Prim.Native.Nat.{ℕ}
 use mathlib.Core.List.{List}
 use Rattle.octets.specs.Octets.{tabulate}
 use Rattle.sbox.specs.Sbox.{sBox, invSBox}
-use Rattle.words.specs.Columns.{mixedEntry, invMixedEntry}
+use Rattle.mixing.specs.Mixing.{mixedEntry, invMixedEntry}
 
 -- what each byte, through the S-box, adds as byte 0 of a column to the mixed column
 abbrev pub forwardTable : List ℕ

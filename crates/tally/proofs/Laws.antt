@@ -9,7 +9,7 @@ use borrow.Author.Tests.{ltb-true}
 use Prim.Native.Nat.{ℕ, _+_, _*_, _%_, _≤_, _<_}
 use native.Mathlib.Omega.{arith}
 use Rattle.layout.specs.declared.Head.{Head}
-use Rattle.header.specs.declared.Verdict.the-variants.{Accepted}
+use Rattle.reasons.specs.declared.Verdict.the-variants.{Accepted}
 use Rattle.tally.specs.Tally.{blocksReadWith, following, stepped, unstopped}
 use Rattle.tally.specs.declared.Stop.{Stop}
 use Rattle.tally.specs.declared.Stop.the-variants.{End, Asked, Lent, Room, At}

@@ -4,10 +4,10 @@ use mathlib.Core.Bool.{Bool, true, false}
 use mathlib.Core.List.{List}
 use Rattle.layout.specs.declared.Head.{Head}
 use Rattle.limits.specs.Marks.{selected}
-use Rattle.header.specs.Rules.{reasonNumber}
-use Rattle.header.specs.declared.Progress.{Progress}
-use Rattle.header.specs.declared.Verdict.{Verdict}
-use Rattle.header.specs.declared.Verdict.the-variants.{Accepted, Refused}
+use Rattle.reasons.specs.Reasons.{reasonNumber}
+use Rattle.progress.specs.declared.Progress.{Progress}
+use Rattle.reasons.specs.declared.Verdict.{Verdict}
+use Rattle.reasons.specs.declared.Verdict.the-variants.{Accepted, Refused}
 use Rattle.tally.specs.declared.BlocksRead.{BlocksRead}
 use Rattle.tally.specs.declared.Stop.{Stop}
 use Rattle.tally.specs.declared.Stop.the-variants.{End, Asked, Lent, Room, At}

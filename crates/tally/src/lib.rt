@@ -1,10 +1,10 @@
 // What a turn of a reader has done, block by block: how far it has come, what it has counted, and how it stopped.
 use format::Judged;
-use header::Progress;
-use header::Reason;
-use header::Verdict;
 use layout::Head;
 use limits::selected;
+use progress::Progress;
+use reasons::Reason;
+use reasons::Verdict;
 use std::num::wrapping_add_usize;
 ghost use mathlib.Core.Path.{_≡_};
 ghost use mathlib.Core.Bool.{_&&_};

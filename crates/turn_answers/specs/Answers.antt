@@ -2,11 +2,11 @@
 use Prim.Native.Nat.{ℕ}
 use mathlib.Core.List.{List}
 use lib.ListN.{getD}
-use Rattle.header.specs.Rules.{reasonNumber, reasonValue}
+use Rattle.reasons.specs.Reasons.{reasonNumber, reasonValue}
 use Rattle.tally.specs.Tally.{stopNumber}
 use Rattle.tally.specs.declared.Stop.{Stop}
 use Rattle.tally.specs.declared.Stop.the-variants.{End, Asked, Lent, Room, At}
-use Rattle.image.specs.declared.Turn.{Turn}
+use Rattle.reader.specs.declared.Turn.{Turn}
 use Rattle.turn_answers.specs.declared.Told.{Told}
 use Rattle.turn_answers.specs.declared.TurnAnswer.{TurnAnswer}
 

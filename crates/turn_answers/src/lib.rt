@@ -1,11 +1,11 @@
 // What a turn did, as C has it: numbers in place of enums.
-use header::Reason;
-use header::Value;
-use image::Reader;
-use image::Turn;
+use reader::Reader;
+use reader::Turn;
+use reasons::Reason;
+use reasons::Value;
 use tally::Stop;
 ghost use mathlib.Core.Path.{_≡_};
-ghost use Rattle.header.specs.Rules.{reasonValue};
+ghost use Rattle.reasons.specs.Reasons.{reasonValue};
 ghost use Rattle.tally.specs.Tally.{stopNumber};
 ghost use Rattle.turn_answers.specs.Answers.{valueHeld, noBlock, toldOf, turnAnswer};
 

@@ -11,9 +11,9 @@ use Rattle.lookups.specs.Lookups.{oneTable, inverseWords}
 use Rattle.sp800_38b.specs.Cmac.{doubled, key1, key2}
 use Rattle.layout.specs.Layout.{headOf}
 use Rattle.limits.specs.Marks.{selected}
-use Rattle.header.specs.declared.Progress.{Progress}
-use Rattle.header.specs.declared.Verdict.{Verdict}
-use Rattle.header.specs.declared.Verdict.the-variants.{Accepted, Refused}
+use Rattle.progress.specs.declared.Progress.{Progress}
+use Rattle.reasons.specs.declared.Verdict.{Verdict}
+use Rattle.reasons.specs.declared.Verdict.the-variants.{Accepted, Refused}
 use Rattle.format.specs.Judge.{BlockReader, either, ofBoth, taken}
 use Rattle.format.specs.Lent.{lentKeys}
 use Rattle.format.specs.declared.Rounds.{Rounds}

@@ -14,10 +14,10 @@ use Rattle.blocks.specs.Blocks.{blockAt}
 use Rattle.blocks.proofs.Laws.{block-at}
 use Rattle.layout.specs.Layout.{headOf}
 use Rattle.layout.specs.declared.Head.{Head}
-use Rattle.header.specs.declared.Progress.{Progress}
-use Rattle.header.specs.declared.Reason.{Reason}
-use Rattle.header.specs.declared.Verdict.{Verdict}
-use Rattle.header.specs.declared.Verdict.the-variants.{Accepted, Refused}
+use Rattle.progress.specs.declared.Progress.{Progress}
+use Rattle.reasons.specs.declared.Reason.{Reason}
+use Rattle.reasons.specs.declared.Verdict.{Verdict}
+use Rattle.reasons.specs.declared.Verdict.the-variants.{Accepted, Refused}
 use Rattle.format.specs.Judge.{taken, BlockReader}
 use Rattle.tally.specs.Tally.{blocksReadWith, following, stepped, unstopped}
 use Rattle.tally.proofs.Laws.{stepped-plain}

@@ -8,7 +8,7 @@ use borrow.Author.Tests.{leb-true}
 use lib.Dec.{eqb, ltb, leb}
 use lib.ListN.{length}
 use Rattle.octets.specs.Octets.{over}
-use Rattle.header.specs.declared.Progress.{Progress}
+use Rattle.progress.specs.declared.Progress.{Progress}
 use Rattle.format.specs.Judge.{Keys, ofBoth}
 use Rattle.turns.specs.Turn.{readBlocks, cut, handled, whole, blocksRead, turnUnder}
 use Rattle.tally.specs.declared.BlocksRead.{BlocksRead}

@@ -8,9 +8,9 @@ use Rattle.octets.specs.Octets.{choose, over}
 use Rattle.fips197.specs.Cipher.{standard}
 use Rattle.sp800_38b.specs.Cmac.{cmac}
 use Rattle.layout.specs.Layout.{bodySize, blockSize, headOf}
-use Rattle.header.specs.declared.Progress.{Progress}
-use Rattle.header.specs.declared.Verdict.{Verdict}
-use Rattle.header.specs.declared.Verdict.the-variants.{Accepted, Refused}
+use Rattle.progress.specs.declared.Progress.{Progress}
+use Rattle.reasons.specs.declared.Verdict.{Verdict}
+use Rattle.reasons.specs.declared.Verdict.the-variants.{Accepted, Refused}
 use Rattle.format.specs.Judge.{Keys, BlockReader, ofBoth, taken}
 use Rattle.format.specs.Lent.{usable}
 use Rattle.format.specs.declared.Rounds.{Rounds}

@@ -2,10 +2,10 @@
 use blocks::load;
 use cipher::inverse_words;
 use format::Rounds;
-use header::Progress;
-use header::Verdict;
 use judging::judge;
 use opening::open_block;
+use progress::Progress;
+use reasons::Verdict;
 use tables::forward_table;
 use tables::inverse_table;
 use tally::BlocksRead;

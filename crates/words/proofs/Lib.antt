@@ -1,3 +1,1 @@
 pub mod Rotate
-pub mod Mix
-pub mod Spin

@@ -1,12 +1,10 @@
--- Rotation by division, and the bytes of a word that a matrix gives. Assumes nothing.
+-- Rotation by division, and a word of substituted bytes. Assumes nothing.
 use mathlib.Core.Path.{_≡_, sym, ap, _∙_}
 use Prim.Native.Nat.{ℕ, _+_, _*_, _/_, _%_, _<_}
 use native.Mathlib.Omega.{arith}
 use Rattle.octets.specs.Words.{word, byte}
-use Rattle.octets.proofs.Xor.{xor-lt}
 use Rattle.octets.proofs.Words.{byte-lt, word-bytes, byte0-word, byte1-word, byte2-word, byte3-word}
-use Rattle.field.proofs.Laws.{product-lt}
-use Rattle.words.specs.Columns.{rotWord, rotTwo, rotThree, diagonal, IsDiagonal, row}
+use Rattle.words.specs.Columns.{rotWord, rotTwo, rotThree, diagonal, IsDiagonal}
 
 module _ (a b c d : ℕ) (ha : a < 256) (hb : b < 256) (hc : c < 256) (hd : d < 256) where
   by-one : word a b c d / 16777216 + word a b c d % 16777216 * 256 ≡ word b c d a
@@ -64,7 +62,3 @@ is-diagonal sub a b c d r ha hb hc hd e = record {
   third = ap (byte 2) e ∙ byte2-word _ _ _ _ ha hb hc hd;
   fourth = ap (byte 3) e ∙ byte3-word _ _ _ _ ha hb hc hd;
 }
-
-pub row-lt : (p q u v : ℕ) {a b c d : ℕ} → a < 256 → b < 256 → c < 256 → d < 256 → row p q u v a b c d < 256
-unfolding row
-row-lt p q u v ha hb hc hd = xor-lt (xor-lt (product-lt p ha) (product-lt q hb)) (xor-lt (product-lt u hc) (product-lt v hd))

@@ -1,10 +1,8 @@
--- What is done to a word as a whole: rotation and substitution of FIPS 197, 5.2, and the mixing of one column, 5.1.3 and 5.3.3.
--- Assumes nothing: these are definitions.
+-- What is done to a word as a whole: rotation and substitution of FIPS 197, 5.2, and its bytes looked up. Assumes nothing: these are definitions.
 use Prim.Native.Nat.{ℕ}
 use mathlib.Core.Path.{_≡_}
 use Rattle.octets.specs.Octets.{xor}
 use Rattle.octets.specs.Words.{word, byte}
-use Rattle.field.specs.Field.{xTimes, _•_}
 
 -- ROTWORD (5.2): [a0, a1, a2, a3] becomes [a1, a2, a3, a0]
 unfoldable pub rotWord : ℕ → ℕ
@@ -33,44 +31,12 @@ pub record IsDiagonal (sub : ℕ → ℕ) (a b c d r : ℕ) : Type 0 where
 abbrev pub subWord : (ℕ → ℕ) → ℕ → ℕ
 subWord sub x = diagonal sub x x x x
 
--- the four bytes doubled
-unfoldable pub doubled : ℕ → ℕ
-doubled x = word (xTimes (byte 0 x)) (xTimes (byte 1 x)) (xTimes (byte 2 x)) (xTimes (byte 3 x))
-
--- a row p q u v of a matrix times a column a b c d (4.3)
-unfoldable pub row : ℕ → ℕ → ℕ → ℕ → ℕ → ℕ → ℕ → ℕ → ℕ
-row p q u v a b c d = xor (xor (a • p) (b • q)) (xor (c • u) (d • v))
-
--- the first row of the matrix of MIXCOLUMNS (5.1.3), and of that of INVMIXCOLUMNS (5.3.3); each next row is the one before turned right by one
-abbrev pub mixRow : ℕ → ℕ → ℕ → ℕ → ℕ
-mixRow = row 0x02 0x03 0x01 0x01
-
-abbrev pub invMixRow : ℕ → ℕ → ℕ → ℕ → ℕ
-invMixRow = row 0x0e 0x0b 0x0d 0x09
-
--- the matrix with this first row times the column a b c d
-unfoldable pub column : (ℕ → ℕ → ℕ → ℕ → ℕ) → ℕ → ℕ → ℕ → ℕ → ℕ
-column first a b c d = word (first a b c d) (first b c d a) (first c d a b) (first d a b c)
-
-unfoldable pub mixColumn : ℕ → ℕ
-mixColumn x = column mixRow (byte 0 x) (byte 1 x) (byte 2 x) (byte 3 x)
-
-unfoldable pub invMixColumn : ℕ → ℕ
-invMixColumn x = column invMixRow (byte 0 x) (byte 1 x) (byte 2 x) (byte 3 x)
-
--- ---- a round by lookups in a table of words
-
--- what byte 0 of a column adds to the mixed column, where each byte is substituted first; and to the one mixed back
-abbrev pub mixedEntry : (ℕ → ℕ) → ℕ → ℕ
-mixedEntry sub x = mixColumn (word (sub x) 0 0 0)
-
-abbrev pub invMixedEntry : (ℕ → ℕ) → ℕ → ℕ
-invMixedEntry sub x = invMixColumn (word (sub x) 0 0 0)
+-- ---- lookups in a table of words
 
 -- byte 0 of a, byte 1 of b, byte 2 of c and byte 3 of d looked up in the table t, each entry turned to its byte's place, added up
 unfoldable pub subMixColumn : (ℕ → ℕ) → ℕ → ℕ → ℕ → ℕ → ℕ
 subMixColumn t a b c d = xor (xor (t (byte 0 a)) (rotThree (t (byte 1 b)))) (xor (rotTwo (t (byte 2 c))) (rotWord (t (byte 3 d))))
 
--- what `mixedEntry` has substituted: the matrix of MIXCOLUMNS has 1 in the third row of its first column
+-- the third byte of an entry: in a mixed table what was substituted, since the matrix of MIXCOLUMNS has 1 in the third row of its first column
 abbrev pub subByte : (ℕ → ℕ) → ℕ → ℕ
 subByte t x = byte 2 (t x)

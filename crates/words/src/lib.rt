@@ -1,10 +1,10 @@
-// Words of four bytes in one u32, the first byte highest: made of bytes, rotated, substituted and mixed.
+// Words of four bytes in one u32, the first byte highest: made of bytes, rotated, and substituted or looked up byte by byte.
 ghost use mathlib.Core.Path.{_≡_};
 ghost use Prim.Native.Nat.{_<_};
 ghost use mathlib.Core.List.{[], _∷_};
 ghost use Rattle.octets.specs.Words.{word, bytesOf};
 ghost use Rattle.octets.specs.Octets.{entry};
-ghost use Rattle.words.specs.Columns.{rotWord, rotTwo, rotThree, diagonal, IsDiagonal, doubled, mixColumn, invMixColumn, subByte};
+ghost use Rattle.words.specs.Columns.{rotWord, rotTwo, rotThree, diagonal, IsDiagonal, subByte};
 ghost use Rattle.words.specs.Columns as spec;
 
 pub fn join(a: u8, b: u8, c: u8, d: u8) -> u32
@@ -31,6 +31,19 @@ pub fn rot_word(x: u32) -> u32
     x / 16777216 + x % 16777216 * 256
 }
 
+// ROTWORD twice, and three times.
+pub fn rot_two(x: u32) -> u32
+    ensures { λ r. ⌜ r ≡ rotTwo x ⌝ }
+{
+    x / 65536 + x % 65536 * 65536
+}
+
+pub fn rot_three(x: u32) -> u32
+    ensures { λ r. ⌜ r ≡ rotThree x ⌝ }
+{
+    x / 256 + x % 256 * 16777216
+}
+
 // SUBWORD: each byte through the table.
 pub fn sub_word(table: &[u8; 256], x: u32) -> u32
     ensures { λ r. ⌜ IsDiagonal (entry (now (table .entry))) x x x x r ⌝ }
@@ -41,21 +54,6 @@ pub fn sub_word(table: &[u8; 256], x: u32) -> u32
         looked_up(table, x / 256 % 256),
         looked_up(table, x % 256),
     )
-}
-
-// 2a + 3b + c + d at each byte is 2(a + b) + b + c + d, where b, c and d are the word rotated.
-pub fn mix_column(x: u32) -> u32
-    ensures { λ r. ⌜ r ≡ mixColumn x ⌝ }
-{
-    let y = rot_word(x);
-    (double_each(x ^ y) ^ y) ^ (rot_two(x) ^ rot_three(x))
-}
-
-// The inverse matrix is the matrix times one that adds to each byte four times its sum with the byte two below.
-pub fn inv_mix_column(x: u32) -> u32
-    ensures { λ r. ⌜ r ≡ invMixColumn x ⌝ }
-{
-    mix_column(x ^ double_each(double_each(x ^ rot_two(x))))
 }
 
 // Byte 0 of a, byte 1 of b, byte 2 of c and byte 3 of d, each looked up and turned to its place: over a mixed table, a column of a round.
@@ -93,25 +91,6 @@ fn middle_at(table: &[u32; 256], x: u32) -> u32
     ensures { λ r. ⌜ (r ≡ subByte (entry (now (table .entry))) x) × (r < 256) ⌝ }
 {
     table[x as usize] / 256 % 256
-}
-
-fn rot_two(x: u32) -> u32
-    ensures { λ r. ⌜ r ≡ rotTwo x ⌝ }
-{
-    x / 65536 + x % 65536 * 65536
-}
-
-fn rot_three(x: u32) -> u32
-    ensures { λ r. ⌜ r ≡ rotThree x ⌝ }
-{
-    x / 256 + x % 256 * 16777216
-}
-
-// Doubles the four bytes at once: the low seven bits of each shifted, and 1b for each top bit.
-fn double_each(x: u32) -> u32
-    ensures { λ r. ⌜ r ≡ doubled x ⌝ }
-{
-    ((x & 0x7f7f7f7f) * 2) ^ ((x / 128 & 0x01010101) * 27)
 }
 
 fn looked_up(table: &[u8; 256], x: u32) -> u32

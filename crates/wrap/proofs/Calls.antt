@@ -19,16 +19,16 @@ use Rattle.lookups.specs.Lookups.{inverseWords, oneTable}
 use Rattle.tables.specs.Tables.{forwardTable, inverseTable}
 use Rattle.lookups.proofs.Lawful.{lent-agrees}
 use Rattle.fips197.proofs.Aes.{key-lawful}
-use Rattle.registers.specs.Wrap.{initial, register, wrapped, unwrapped}
-use Rattle.registers.specs.Sizes.{wrappedSizeFits}
-use Rattle.registers.proofs.Sizes.{wrapped-size-parts}
-use Rattle.registers.proofs.Agree.{wrapped-same, unwrapped-same}
-use Rattle.wrap.specs.Calls.{sizeFits, wrapRuled, wrapAnswer, wrapOutput, opening, unwrapAnswer, unwrapOutput}
+use Rattle.rfc3394.specs.Wrap.{initial, register, wrapped, unwrapped}
+use Rattle.wrap_answers.proofs.Sizes.{wrapped-size-parts}
+use Rattle.rfc3394.proofs.Agree.{wrapped-same, unwrapped-same}
+use Rattle.wrap_answers.specs.Answers.{wrappedSizeFits, sizeFits, wrapRuled}
+use Rattle.wrap.specs.Calls.{wrapAnswer, wrapOutput, opening, unwrapAnswer, unwrapOutput}
 use Rattle.wrap.specs.Lent.{openedOver}
-use Rattle.wrap.specs.declared.WrapAnswer.{WrapAnswer}
-use Rattle.wrap.specs.declared.WrapAnswer.the-variants.{WrapDone, WrapKey, WrapSize, WrapRoom, WrongInitial}
-use Rattle.wrap.proofs.WrapAnswer.{the-type}
-use Rattle.wrap.proofs.Sizes.{size-parts}
+use Rattle.wrap_answers.specs.declared.WrapAnswer.{WrapAnswer}
+use Rattle.wrap_answers.specs.declared.WrapAnswer.the-variants.{WrapDone, WrapKey, WrapSize, WrapRoom, WrongInitial}
+use Rattle.wrap_answers.proofs.WrapAnswer.{the-type}
+use Rattle.wrap_answers.proofs.Sizes.{size-parts}
 
 -- the tag of an answer that is not the first case
 abbrev pub Refused : WrapAnswer → Type 0

@@ -1,35 +1,16 @@
 -- The calls: wrapping and unwrapping under a key. Assumes nothing: these are definitions.
-use Prim.Native.Nat.{ℕ, _+_, _-_, _%_}
-use mathlib.Core.Bool.{Bool, _&&_}
+use Prim.Native.Nat.{ℕ, _+_, _-_}
 use mathlib.Core.List.{List}
-use lib.Dec.{eqb, ltb, leb}
 use lib.ListN.{length, drop}
 use Rattle.octets.specs.Octets.{choose, same, over}
 use Rattle.octets.specs.Blocks.{BlockCipher}
 use Rattle.sbox.specs.Sbox.{sBox}
 use Rattle.schedule.specs.Schedule.{scheduleOf, keyNumber}
 use Rattle.fips197.specs.Cipher.{aesOf}
-use Rattle.registers.specs.Wrap.{initial, register, wrapped, unwrapped}
-use Rattle.registers.specs.Sizes.{wrappedSizeFits}
-use Rattle.wrap.specs.declared.WrapAnswer.{WrapAnswer}
-use Rattle.wrap.specs.declared.WrapAnswer.the-variants.{WrapDone, WrapKey, WrapSize, WrapRoom, WrongInitial}
-
--- the number of each answer
-abbrev pub wrapNumber : WrapAnswer → ℕ
-wrapNumber WrapDone = 0
-wrapNumber WrapKey = 1
-wrapNumber WrapRoom = 4
-wrapNumber WrapSize = 18
-wrapNumber WrongInitial = 19
-
--- key data is 16 to 64 bytes and a multiple of 8: what wrapped data has, but for 8 bytes
-abbrev pub sizeFits : ℕ → Bool
-sizeFits n = leb 16 n && (leb n 64 && eqb (n % 8) 0)
-
--- 1, 18, 4, in that order, of the key's number, whether the length is in the rule, the length of the result and that of the output
-unfoldable pub wrapRuled : (key : ℕ) (size : Bool) (result out : ℕ) → WrapAnswer → WrapAnswer
-wrapRuled key size result out answer =
-    choose (eqb key 0) (choose size (choose (ltb out result) WrapRoom answer) WrapSize) WrapKey
+use Rattle.rfc3394.specs.Wrap.{initial, register, wrapped, unwrapped}
+use Rattle.wrap_answers.specs.Answers.{sizeFits, wrappedSizeFits, wrapRuled}
+use Rattle.wrap_answers.specs.declared.WrapAnswer.{WrapAnswer}
+use Rattle.wrap_answers.specs.declared.WrapAnswer.the-variants.{WrapDone, WrapKey, WrapSize, WrapRoom, WrongInitial}
 
 unfoldable pub wrapAnswer : (key dat out : List ℕ) → WrapAnswer
 wrapAnswer key dat out = wrapRuled (keyNumber (scheduleOf sBox key .answer)) (sizeFits (length dat)) (length dat + 8) (length out) WrapDone

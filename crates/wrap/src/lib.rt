@@ -1,48 +1,23 @@
 // The key wrap of RFC 3394 under AES: replacement keys, wrapped under a key that the receiver has.
-use blocks::copy;
 use cipher::inverse_words;
-use registers::is_initial;
 use registers::passes;
 use registers::unpasses;
-use registers::wrapped_size_fits;
-use schedule::KeyAnswer;
 use schedule::KeySchedule;
+use slices::copy;
 use tables::forward_table;
 use tables::inverse_table;
+use wrap_answers::WrapAnswer;
+use wrap_answers::is_initial;
+use wrap_answers::judge_unwrap;
+use wrap_answers::judge_wrap;
 ghost use mathlib.Core.Path.{_≡_};
-ghost use Prim.Native.Nat.{_+_, _-_, _%_, _≤_};
+ghost use Prim.Native.Nat.{_+_, _%_, _≤_};
 ghost use lib.ListN.{length};
 ghost use Rattle.octets.specs.Octets.{padTo, over};
-ghost use Rattle.schedule.specs.Schedule.{keyNumber};
 ghost use Rattle.lookups.specs.Lookups.{oneTable};
-ghost use Rattle.registers.specs.Wrap.{wrapped, unwrapped};
-ghost use Rattle.registers.specs.Sizes.{wrappedSizeFits};
+ghost use Rattle.rfc3394.specs.Wrap.{wrapped, unwrapped};
 ghost use Rattle.wrap.specs.Lent.{openedOver};
-ghost use Rattle.wrap.specs.declared.WrapAnswer.the-variants.{WrapDone};
 ghost use Rattle.wrap.specs.Calls as spec;
-
-// The case of the call, or why it was refused.
-pub enum WrapAnswer {
-    WrapDone,
-    WrapKey,
-    WrapSize,
-    WrapRoom,
-    WrongInitial,
-}
-
-impl WrapAnswer {
-    pub fn number(self) -> u32
-        ensures { λ r. ⌜ r ≡ spec.wrapNumber self ⌝ }
-    {
-        match self {
-            WrapAnswer::WrapDone => 0,
-            WrapAnswer::WrapKey => 1,
-            WrapAnswer::WrapRoom => 4,
-            WrapAnswer::WrapSize => 18,
-            WrapAnswer::WrongInitial => 19,
-        }
-    }
-}
 
 // Wraps 16 to 64 bytes of key data, a multiple of 8; the result, 8 bytes more, goes into the first bytes of the output.
 // A refused call leaves the output as it was, and so do bytes of it past the result.
@@ -81,51 +56,6 @@ pub fn unwrap(key: &[u8], data: &[u8], output: &mut [u8]) -> WrapAnswer
     inverse_words(&words, schedule.rounds, &mut back);
     let table = inverse_table();
     unwrap_into(&table, &back, schedule.rounds, data, output)
-}
-
-// Whether key data may have this length.
-fn size_fits(len: usize) -> bool
-    ensures { λ r. ⌜ r ≡ spec.sizeFits len ⌝ }
-{
-    if len < 16 {
-        return false;
-    }
-    if len > 64 {
-        return false;
-    }
-    len % 8 == 0
-}
-
-// The answer of wrapping, from that for the key and the lengths of data and output.
-fn judge_wrap(key: KeyAnswer, len: usize, room: usize) -> WrapAnswer
-    ensures { λ r. ⌜ r ≡ spec.wrapRuled (keyNumber key) (spec.sizeFits len) (len + 8) room WrapDone ⌝ }
-{
-    let KeyAnswer::Taken = key else {
-        return WrapAnswer::WrapKey;
-    };
-    if !size_fits(len) {
-        return WrapAnswer::WrapSize;
-    }
-    if room < len + 8 {
-        return WrapAnswer::WrapRoom;
-    }
-    WrapAnswer::WrapDone
-}
-
-// The answer of unwrapping, but for what only the unwrapped registers can tell.
-fn judge_unwrap(key: KeyAnswer, len: usize, room: usize) -> WrapAnswer
-    ensures { λ r. ⌜ r ≡ spec.wrapRuled (keyNumber key) (wrappedSizeFits len) (len - 8) room WrapDone ⌝ }
-{
-    let KeyAnswer::Taken = key else {
-        return WrapAnswer::WrapKey;
-    };
-    if !wrapped_size_fits(len) {
-        return WrapAnswer::WrapSize;
-    }
-    if room < len - 8 {
-        return WrapAnswer::WrapRoom;
-    }
-    WrapAnswer::WrapDone
 }
 
 // Nothing is refused from here on, so the registers stand in the output itself.

@@ -23,12 +23,13 @@ use Rattle.format.specs.Sealed.{headFor}
 use Rattle.format.specs.Lent.{bothTaken, sealedOver}
 use Rattle.format.proofs.Editions.{tail-bytes}
 use Rattle.format.proofs.Agree.{sealed-same}
-use Rattle.writer.specs.Calls.{writeRuled, writeAnswer, writeOutput, lastFor}
+use Rattle.write_answers.specs.Answers.{writeRuled, lastFor}
+use Rattle.writer.specs.Calls.{writeAnswer, writeOutput}
 use Rattle.writer.specs.Lent.{sealedUnder}
-use Rattle.writer.specs.declared.WriteAnswer.{WriteAnswer}
-use Rattle.writer.specs.declared.WriteAnswer.the-variants.{Written, WriteKey, WriteCount, WriteNumber, WriteLength, WriteEdition, WriteRoom}
-use Rattle.writer.specs.declared.Numbers.{Numbers}
-use Rattle.writer.proofs.WriteAnswer.{the-type}
+use Rattle.write_answers.specs.declared.WriteAnswer.{WriteAnswer}
+use Rattle.write_answers.specs.declared.WriteAnswer.the-variants.{Written, WriteKey, WriteCount, WriteNumber, WriteLength, WriteEdition, WriteRoom}
+use Rattle.write_answers.specs.declared.Numbers.{Numbers}
+use Rattle.write_answers.proofs.WriteAnswer.{the-type}
 
 -- ---- the check before
 

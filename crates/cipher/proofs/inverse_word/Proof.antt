@@ -1,7 +1,7 @@
 use Prim.Native.Nat.{ℕ, _+_, _-_, _*_, _/_, _%_}
 use mathlib.Core.Path.{_≡_, ap, _∙_}
 use lib.ListN.{getD}
-use Rattle.words.specs.Columns.{invMixColumn}
+use Rattle.mixing.specs.Mixing.{invMixColumn}
 use Rattle.lookups.proofs.Back.{word-past, word-first, word-last, word-between}
 use denote.Ref.{now}
 use native.Mathlib.Omega.{arith}

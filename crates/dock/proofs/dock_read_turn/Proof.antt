@@ -1,7 +1,7 @@
 use Prim.Native.Nat.{ℕ}
 use mathlib.Core.List.{List}
 use mathlib.Core.Path.{ap, _∙_}
-use Rattle.image.specs.declared.Turn.{Turn}
+use Rattle.reader.specs.declared.Turn.{Turn}
 use Rattle.turn_answers.specs.Answers.{turnAnswer}
 use borrow.Author.Needs.{needs}
 use Rattle.dock.proofs.dock_read_turn.Statement.{statement}

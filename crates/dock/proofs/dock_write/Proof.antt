@@ -1,6 +1,7 @@
 use mathlib.Core.Path.{ap, _∙_}
-use Rattle.writer.specs.Calls.{writeNumber, writeOutput}
-use Rattle.writer.specs.declared.WriteAnswer.{WriteAnswer}
+use Rattle.write_answers.specs.Answers.{writeNumber}
+use Rattle.writer.specs.Calls.{writeOutput}
+use Rattle.write_answers.specs.declared.WriteAnswer.{WriteAnswer}
 use Rattle.dock.specs.Answers.{numbers}
 use borrow.Author.Needs.{needs}
 use Rattle.dock.proofs.dock_write.Statement.{statement}

@@ -1,7 +1,7 @@
 use mathlib.Core.Bool.{not}
 use borrow.Author.Tests.{eq-eqb, ne-eqb}
 use Rattle.header.specs.Rules.{headTests}
-use Rattle.header.proofs.Order.{hit, miss, through}
+use Rattle.reasons.proofs.Order.{hit, miss, through}
 use mathlib.Core.Path.{sym, ap, _∙_}
 use borrow.Author.Needs.{needs}
 use Rattle.header.proofs.judge_head.Statement.{statement}

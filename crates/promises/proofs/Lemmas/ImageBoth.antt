@@ -12,14 +12,14 @@ use lib.Seq.{drop-at, length-take-le}
 use Rattle.octets.specs.Octets.{choose, Bytes, Octets}
 use Rattle.octets.specs.Blocks.{BlockCipher, Lawful}
 use Rattle.octets.proofs.Blocks.{take-bytes, append-bytes}
-use Rattle.blocks.proofs.Laws.{same-true}
+use Rattle.octets.proofs.Same.{same-true}
 use Rattle.sp800_38b.specs.Cmac.{cmac, SameOutside}
 use Rattle.sp800_38b.proofs.OnePiece.{one-piece}
 use Rattle.layout.specs.Layout.{headOf}
 use Rattle.layout.specs.declared.Head.{Head}
 use Rattle.limits.specs.Marks.{isEdition, selected, markOf}
-use Rattle.header.specs.Rules.{markFor}
-use Rattle.header.specs.declared.Progress.{Progress}
+use Rattle.progress.specs.Progress.{markFor}
+use Rattle.progress.specs.declared.Progress.{Progress}
 use Rattle.format.specs.Edition.{tailOf, edition}
 use Rattle.format.specs.Sealed.{sealed, checks}
 use Rattle.format.specs.Judge.{Keys, always, either, ofBoth, fresh, taken}

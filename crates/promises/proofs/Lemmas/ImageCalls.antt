@@ -22,21 +22,23 @@ use Rattle.sp800_38b.specs.Cmac.{cmac}
 use Rattle.layout.specs.Layout.{headOf}
 use Rattle.limits.specs.Fits.{countFits, lengthFits}
 use Rattle.limits.specs.Marks.{isEdition}
-use Rattle.header.specs.declared.Verdict.the-variants.{Accepted}
+use Rattle.reasons.specs.declared.Verdict.the-variants.{Accepted}
 use Rattle.layout.proofs.Laws.{Wide}
 use Rattle.format.specs.Edition.{tailOf, edition}
 use Rattle.format.specs.Sealed.{headFor, opened}
 use Rattle.format.specs.Judge.{Keys, either, fresh, taken}
 use Rattle.format.specs.Lent.{bothTaken}
 use Rattle.turns.specs.Turn.{Reading, readBlocks, cut, handled, whole, blocksRead, turnUnder}
-use Rattle.writer.specs.Calls.{lastFor, blockOf, writeRuled, writeAnswer, writeOutput}
-use Rattle.image.specs.Calls.{startedBy, startOf, keysOf, blocksBy, turnAfter, turnOf}
+use Rattle.write_answers.specs.Answers.{lastFor, writeRuled}
+use Rattle.writer.specs.Calls.{blockOf, writeAnswer, writeOutput}
+use Rattle.reader.specs.Calls.{startedBy, startOf}
+use Rattle.image.specs.Calls.{keysOf, blocksBy, turnAfter, turnOf}
 use Rattle.tally.specs.declared.BlocksRead.{BlocksRead}
-use Rattle.writer.specs.declared.WriteAnswer.the-variants.{Written, WriteKey, WriteCount, WriteNumber, WriteLength, WriteEdition, WriteRoom}
-use Rattle.writer.specs.declared.Numbers.{Numbers}
-use Rattle.image.specs.declared.Reader.{Reader}
+use Rattle.write_answers.specs.declared.WriteAnswer.the-variants.{Written, WriteKey, WriteCount, WriteNumber, WriteLength, WriteEdition, WriteRoom}
+use Rattle.write_answers.specs.declared.Numbers.{Numbers}
+use Rattle.reader.specs.declared.Reader.{Reader}
 use Rattle.tally.specs.declared.Stop.the-variants.{End, Asked, Lent, Room}
-use Rattle.image.specs.declared.Turn.{Turn}
+use Rattle.reader.specs.declared.Turn.{Turn}
 use Rattle.format.proofs.Editions.{tail-bytes}
 use Rattle.writer.proofs.Calls.{last-bytes, last-size, mark-small}
 use Rattle.promises.proofs.ImageTerms.{Blocks, Fit, WriteSays, inState, readingOf, given, Fair, StopSays}

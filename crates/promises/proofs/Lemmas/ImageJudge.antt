@@ -19,16 +19,18 @@ use Rattle.sp800_38a.proofs.Sixteen.{length-16, undone-16, bytes-16}
 use Rattle.sp800_38b.specs.Cmac.{cmac, SameOutside}
 use Rattle.layout.specs.Layout.{headOf}
 use Rattle.limits.specs.Fits.{countFits, lengthFits}
-use Rattle.header.specs.Rules.{firstOf, closed, headTests}
+use Rattle.reasons.specs.Reasons.{firstOf}
+use Rattle.progress.specs.Progress.{closed}
+use Rattle.header.specs.Rules.{headTests}
 use Rattle.layout.specs.declared.Head.{Head}
-use Rattle.header.specs.declared.Progress.{Progress}
-use Rattle.header.specs.declared.Reason.{Reason}
-use Rattle.header.specs.declared.Reason.the-variants.{AfterLast, CheckWrong, Count, Number, OtherCount, OtherRelease, Length, Reserved, FillNotZero}
-use Rattle.header.specs.declared.Verdict.{Verdict}
-use Rattle.header.specs.declared.Verdict.the-variants.{Accepted, Refused}
+use Rattle.progress.specs.declared.Progress.{Progress}
+use Rattle.reasons.specs.declared.Reason.{Reason}
+use Rattle.reasons.specs.declared.Reason.the-variants.{AfterLast, CheckWrong, Count, Number, OtherCount, OtherRelease, Length, Reserved, FillNotZero}
+use Rattle.reasons.specs.declared.Verdict.{Verdict}
+use Rattle.reasons.specs.declared.Verdict.the-variants.{Accepted, Refused}
 use Rattle.layout.proofs.Laws.{Wide, head-bytes}
-use Rattle.header.proofs.Order.{all-false, all-accepted}
-use Rattle.blocks.proofs.Laws.{same-true}
+use Rattle.reasons.proofs.Order.{all-false, all-accepted}
+use Rattle.octets.proofs.Same.{same-true}
 use Rattle.format.specs.Sealed.{filled, front, sealed, opened, checks, zeroAfter, fillZero}
 use Rattle.format.specs.Edition.{Edition}
 use Rattle.format.specs.Judge.{Keys, tests, judge}

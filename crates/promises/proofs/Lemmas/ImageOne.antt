@@ -17,18 +17,18 @@ use Rattle.octets.proofs.Blocks.{take-bytes, append-bytes, length-nil}
 use Rattle.sp800_38b.specs.Cmac.{cmac}
 use Rattle.layout.specs.Layout.{headOf}
 use Rattle.limits.specs.Fits.{lengthFits}
-use Rattle.header.specs.Rules.{done}
+use Rattle.progress.specs.Progress.{done}
 use Rattle.layout.specs.declared.Head.{Head}
 use Rattle.layout.proofs.Laws.{Wide}
 use Rattle.format.specs.Edition.{Edition, noCheck}
-use Rattle.header.specs.declared.Progress.{Progress}
+use Rattle.progress.specs.declared.Progress.{Progress}
 use Rattle.format.specs.Sealed.{headFor, blockFor, sealed}
 use Rattle.format.specs.Judge.{Keys, Rule, always, either, byRule, ofBoth, fresh, taken}
 use Rattle.turns.specs.Turn.{Reading, readBlocks, blocksRead}
 use Rattle.tally.specs.declared.Stop.the-variants.{End}
 use Rattle.image.specs.Calls.{keysOf, turnAfter, turnOf}
-use Rattle.image.specs.declared.Reader.{Reader}
-use Rattle.image.specs.declared.Turn.{Turn}
+use Rattle.reader.specs.declared.Reader.{Reader}
+use Rattle.reader.specs.declared.Turn.{Turn}
 use Rattle.promises.proofs.ImageTerms.{Proper, Met, Blocks, payload, parts, blocks, written, image, readingOf, given, Fair, Lending, AllFair, offered, readerAfter, AllAccepted}
 use Rattle.promises.proofs.Lemmas.ImageSealed.{sealed-head}
 use Rattle.promises.proofs.Lemmas.ImageJudge.{accepted-met, right-below, fits-le, payload-length, payload-bytes, accepted-sealed}

@@ -12,22 +12,23 @@ use Rattle.fips197.proofs.Aes.{key-lawful}
 use Rattle.sp800_38b.specs.Cmac.{cmac, SameOutside}
 use Rattle.layout.specs.Layout.{headOf}
 use Rattle.limits.specs.Marks.{selected}
-use Rattle.header.specs.Rules.{done, closed}
-use Rattle.header.specs.declared.Reason.the-variants.{AfterLast, CheckWrong}
+use Rattle.progress.specs.Progress.{done, closed}
+use Rattle.reasons.specs.declared.Reason.the-variants.{AfterLast, CheckWrong}
 use Rattle.layout.specs.declared.Head.{Head}
-use Rattle.header.specs.declared.Progress.{Progress}
-use Rattle.header.specs.declared.Verdict.the-variants.{Accepted, Refused}
+use Rattle.progress.specs.declared.Progress.{Progress}
+use Rattle.reasons.specs.declared.Verdict.the-variants.{Accepted, Refused}
 use Rattle.layout.proofs.Laws.{Wide}
 use Rattle.format.specs.Edition.{tailOf, edition}
 use Rattle.format.specs.Sealed.{filled, headFor, sealed, opened, checks}
 use Rattle.format.specs.Judge.{Keys, judge, either, ofBoth}
 use Rattle.turns.specs.Turn.{Reading, readBlocks, handled, blocksRead}
-use Rattle.writer.specs.Calls.{lastFor, blockOf}
+use Rattle.write_answers.specs.Answers.{lastFor}
+use Rattle.writer.specs.Calls.{blockOf}
 use Rattle.image.specs.Calls.{keysOf, turnAfter}
-use Rattle.writer.specs.declared.Numbers.{Numbers}
-use Rattle.image.specs.declared.Reader.{Reader}
+use Rattle.write_answers.specs.declared.Numbers.{Numbers}
+use Rattle.reader.specs.declared.Reader.{Reader}
 use Rattle.tally.specs.declared.Stop.the-variants.{End}
-use Rattle.image.specs.declared.Turn.{Turn}
+use Rattle.reader.specs.declared.Turn.{Turn}
 use Rattle.promises.proofs.ImageTerms.{Met, SealedOn, readingOf, unchecked, Blocks, payload, plains, parts, lengths, AllFilled, partsIn, Fit, Wrote, readerOf, Waits, FromStart, Sound, given, Lending, AllFair, offered, readerAfter, AllAccepted, handedOut, counted, started, turn}
 use Rattle.promises.proofs.Lemmas.ImageSealed.{sealed-size, sealed-bytes, sealed-opened, sealed-head}
 use Rattle.promises.proofs.Lemmas.ImageJudge.{accepted-met, met-accepted, wrong-check, damaged-check, sealed-accepted}

@@ -14,7 +14,7 @@ use Rattle.octets.specs.Blocks.{BlockCipher, Lawful}
 use Rattle.octets.proofs.Xor.{lt-or-le}
 use Rattle.octets.proofs.Fill.{getD-padTo, length-padTo}
 use Rattle.octets.proofs.Blocks.{take-bytes, append-bytes}
-use Rattle.blocks.proofs.Laws.{same-true, same-refl}
+use Rattle.octets.proofs.Same.{same-true, same-refl}
 use Rattle.sp800_38a.specs.Modes.{moded}
 use Rattle.sp800_38a.specs.declared.Operation.the-variants.{CbcEncrypt, CbcDecrypt}
 use Rattle.sp800_38a.proofs.Sixteen.{length-16, undone-16, bytes-16}

@@ -7,9 +7,9 @@ use native.Mathlib.Omega.{arith}
 use borrow.Author.Tests.{eqb-true, eqb-false, ltb-true, le-leb, lt-leb}
 use lib.Dec.{eqb, ltb, leb}
 use Rattle.layout.specs.Layout.{headOf}
-use Rattle.header.specs.Rules.{done, closed}
-use Rattle.header.specs.declared.Progress.{Progress}
-use Rattle.header.specs.declared.Verdict.the-variants.{Accepted}
+use Rattle.progress.specs.Progress.{done, closed}
+use Rattle.progress.specs.declared.Progress.{Progress}
+use Rattle.reasons.specs.declared.Verdict.the-variants.{Accepted}
 use Rattle.format.specs.Judge.{Keys, Rule, byRule, fresh, taken}
 use Rattle.turns.specs.Turn.{Reading, readBlocks}
 use Rattle.promises.proofs.ImageTerms.{Sound}

@@ -9,10 +9,10 @@ use lib.ListN.{length, getD, take, drop, length-append, length-take}
 use lib.Seq.{take-at, drop-at, drop-drop, take-append-le}
 use Rattle.octets.specs.Blocks.{BlockCipher, Lawful}
 use Rattle.layout.specs.Layout.{headOf}
-use Rattle.header.specs.declared.Reason.{Reason}
-use Rattle.header.specs.declared.Verdict.{Verdict}
-use Rattle.header.specs.declared.Verdict.the-variants.{Accepted, Refused}
-use Rattle.header.specs.declared.Progress.{Progress}
+use Rattle.reasons.specs.declared.Reason.{Reason}
+use Rattle.reasons.specs.declared.Verdict.{Verdict}
+use Rattle.reasons.specs.declared.Verdict.the-variants.{Accepted, Refused}
+use Rattle.progress.specs.declared.Progress.{Progress}
 use Rattle.format.specs.Sealed.{opened}
 use Rattle.format.specs.Judge.{Keys, BlockReader, Rule, byRule, taken}
 use Rattle.turns.specs.Turn.{Reading, later, onward, readBlocks}

@@ -17,12 +17,12 @@ use Rattle.sp800_38a.specs.Pieces.{piece}
 use Rattle.sp800_38b.specs.Cmac.{cmac}
 use Rattle.layout.specs.Layout.{headOf}
 use Rattle.limits.specs.Fits.{lengthFits}
-use Rattle.header.specs.Rules.{done}
+use Rattle.progress.specs.Progress.{done}
 use Rattle.layout.specs.declared.Head.{Head}
-use Rattle.header.specs.declared.Verdict.the-variants.{Accepted}
+use Rattle.reasons.specs.declared.Verdict.the-variants.{Accepted}
 use Rattle.layout.proofs.Laws.{Wide}
 use Rattle.format.specs.Edition.{Edition, noCheck}
-use Rattle.header.specs.declared.Progress.{Progress}
+use Rattle.progress.specs.declared.Progress.{Progress}
 use Rattle.format.specs.Sealed.{headFor, blockFor}
 use Rattle.format.specs.Judge.{Keys, Rule, always, byRule, fresh, taken}
 use Rattle.turns.specs.Turn.{Reading, later, readBlocks}

@@ -16,12 +16,12 @@ use Rattle.octets.proofs.Words.{byte-lt}
 use Rattle.sbox.specs.Sbox.{sBox}
 use Rattle.schedule.specs.Schedule.{scheduleOf, keyNumber}
 use Rattle.fips197.specs.Cipher.{aesOf}
-use Rattle.blocks.proofs.Laws.{same-true, same-refl}
-use Rattle.registers.specs.Wrap.{initial, counter, register, replaced, msb, lsb, step, pass, passes, wrapped, unstep, unpass, unpasses, unwrapped}
-use Rattle.registers.specs.Sizes.{wrappedSizeFits}
-use Rattle.wrap.specs.Calls.{wrapNumber, sizeFits, wrapRuled, wrapAnswer, wrapOutput, opening, unwrapAnswer, unwrapOutput}
-use Rattle.wrap.specs.declared.WrapAnswer.{WrapAnswer}
-use Rattle.wrap.specs.declared.WrapAnswer.the-variants.{WrapDone, WrapKey, WrapSize, WrapRoom, WrongInitial}
+use Rattle.octets.proofs.Same.{same-true, same-refl}
+use Rattle.rfc3394.specs.Wrap.{initial, counter, register, replaced, msb, lsb, step, pass, passes, wrapped, unstep, unpass, unpasses, unwrapped}
+use Rattle.wrap_answers.specs.Answers.{wrappedSizeFits, wrapNumber, sizeFits, wrapRuled}
+use Rattle.wrap.specs.Calls.{wrapAnswer, wrapOutput, opening, unwrapAnswer, unwrapOutput}
+use Rattle.wrap_answers.specs.declared.WrapAnswer.{WrapAnswer}
+use Rattle.wrap_answers.specs.declared.WrapAnswer.the-variants.{WrapDone, WrapKey, WrapSize, WrapRoom, WrongInitial}
 use Rattle.promises.proofs.Lemmas.ImageJudge.{and-true}
 use Rattle.promises.proofs.WrapTerms.{WrapFit, WrapSays, UnwrapFit, UnwrapSays}
 

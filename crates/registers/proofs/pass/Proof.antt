@@ -2,9 +2,9 @@ use mathlib.Core.Path.{_≡_, refl, sym, ap, _∙_}
 use Prim.Native.Nat.{ℕ, _+_, _*_, _-_, _≤_}
 use lib.ListN.{length}
 use Rattle.lookups.specs.Lookups.{oneTable}
-use Rattle.registers.specs.Wrap.{step, pass}
+use Rattle.rfc3394.specs.Wrap.{step, pass}
 use Rattle.registers.proofs.Sizes.{product-fits}
-use Rattle.registers.proofs.Passing.{pass-none, pass-more}
+use Rattle.rfc3394.proofs.Passing.{pass-none, pass-more}
 use borrow.Author.Needs.{needs}
 use native.Mathlib.Omega.{arith}
 use Rattle.registers.proofs.pass.Statement.{statement}

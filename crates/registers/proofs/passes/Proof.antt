@@ -3,9 +3,10 @@ use Prim.Native.Nat.{ℕ, _-_, _/_, _≤_}
 use lib.ListN.{length}
 use borrow.Author.Tests.{not-true, not-false}
 use Rattle.lookups.specs.Lookups.{oneTable}
-use Rattle.registers.specs.Wrap.{pass, passes}
-use Rattle.registers.proofs.Sizes.{wrapped-size-parts, passed-right, passed-wrong}
-use Rattle.registers.proofs.Passing.{passes-none, passes-more}
+use Rattle.rfc3394.specs.Wrap.{pass, passes}
+use Rattle.wrap_answers.proofs.Sizes.{wrapped-size-parts}
+use Rattle.registers.proofs.Sizes.{passed-right, passed-wrong}
+use Rattle.rfc3394.proofs.Passing.{passes-none, passes-more}
 use borrow.Author.Needs.{needs}
 use native.Mathlib.Omega.{arith}
 use Rattle.registers.proofs.passes.Statement.{statement}

@@ -2,7 +2,7 @@ use mathlib.Core.Path.{_≡_, ap, _∙_}
 use lib.ListN.{length}
 use Rattle.octets.specs.Octets.{entry}
 use Rattle.lookups.specs.Lookups.{tableEncrypt, oneTable}
-use Rattle.registers.proofs.Passing.{step-by}
+use Rattle.rfc3394.proofs.Passing.{step-by}
 use borrow.Author.Needs.{needs}
 use Rattle.registers.proofs.step.Statement.{statement}
 use Rattle.registers.proofs.step.Tie as tie

@@ -2,9 +2,9 @@ use mathlib.Core.Path.{_≡_, refl, sym, ap, _∙_}
 use Prim.Native.Nat.{ℕ, _-_, _≤_}
 use lib.ListN.{length}
 use Rattle.lookups.specs.Lookups.{oneTable}
-use Rattle.registers.specs.Wrap.{unpass}
+use Rattle.rfc3394.specs.Wrap.{unpass}
 use Rattle.registers.proofs.Sizes.{product-fits}
-use Rattle.registers.proofs.Passing.{unpass-none, unpass-more}
+use Rattle.rfc3394.proofs.Passing.{unpass-none, unpass-more}
 use borrow.Author.Needs.{needs}
 use native.Mathlib.Omega.{arith}
 use Rattle.registers.proofs.unpass.Statement.{statement}

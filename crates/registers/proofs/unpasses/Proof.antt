@@ -3,9 +3,10 @@ use Prim.Native.Nat.{ℕ, _-_, _/_, _≤_}
 use lib.ListN.{length}
 use borrow.Author.Tests.{not-true, not-false}
 use Rattle.lookups.specs.Lookups.{oneTable}
-use Rattle.registers.specs.Wrap.{unpasses}
-use Rattle.registers.proofs.Sizes.{wrapped-size-parts, unpassed-right, unpassed-wrong}
-use Rattle.registers.proofs.Passing.{unpasses-none, unpasses-more, unpasses-whole}
+use Rattle.rfc3394.specs.Wrap.{unpasses}
+use Rattle.wrap_answers.proofs.Sizes.{wrapped-size-parts}
+use Rattle.registers.proofs.Sizes.{unpassed-right, unpassed-wrong}
+use Rattle.rfc3394.proofs.Passing.{unpasses-none, unpasses-more, unpasses-whole}
 use borrow.Author.Needs.{needs}
 use native.Mathlib.Omega.{arith}
 use Rattle.registers.proofs.unpasses.Statement.{statement}

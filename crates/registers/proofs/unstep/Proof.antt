@@ -1,6 +1,6 @@
 use mathlib.Core.Path.{_∙_}
 use Rattle.lookups.specs.Lookups.{oneTable}
-use Rattle.registers.proofs.Passing.{unstep-by}
+use Rattle.rfc3394.proofs.Passing.{unstep-by}
 use native.Mathlib.Omega.{arith}
 use borrow.Author.Needs.{needs}
 use Rattle.registers.proofs.unstep.Statement.{statement}

@@ -7,7 +7,7 @@ use lib.ListN.{length, take, drop}
 use Prim.Native.Nat.{ℕ}
 use mathlib.Core.List.{List}
 use Rattle.blocks.specs.Blocks.{blockPut}
-use Rattle.blocks.proofs.Laws.{copied-zeros}
+use Rattle.slices.proofs.Laws.{copied-zeros}
 use Rattle.octets.specs.Octets.{padTo}
 use Rattle.octets.proofs.Fill.{length-padTo}
 use mathlib.Core.Path.{_≡_, refl, sym, ap, _∙_}

@@ -1,4 +1,4 @@
-use Rattle.header.specs.declared.Progress.{Progress}
+use Rattle.progress.specs.declared.Progress.{Progress}
 use mathlib.Core.Path.{ap}
 use Prim.Native.Nat.{ℕ, _+_, _%_}
 use borrow.Author.Needs.{needs}

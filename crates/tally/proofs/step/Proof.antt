@@ -1,5 +1,5 @@
 use mathlib.Core.Path.{sym, ap, _∙_}
-use Rattle.header.specs.declared.Verdict.{Verdict}
+use Rattle.reasons.specs.declared.Verdict.{Verdict}
 use Rattle.tally.specs.Tally.{stepped}
 use borrow.Author.Needs.{needs}
 use Rattle.tally.proofs.step.Statement.{statement}

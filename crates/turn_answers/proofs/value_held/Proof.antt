@@ -4,8 +4,8 @@ use mathlib.Core.List.{List, [], _∷_}
 use Prim.Native.Nat.{ℕ}
 use borrow.Author.Needs.{needs}
 use lib.ListN.{getD}
-use Rattle.header.specs.Rules.{reasonValue, valueOf}
-use Rattle.header.specs.declared.Value.the-variants.{Held, NoValue}
+use Rattle.reasons.specs.Reasons.{reasonValue, valueOf}
+use Rattle.reasons.specs.declared.Value.the-variants.{Held, NoValue}
 use Rattle.turn_answers.proofs.value_held.Statement.{statement}
 use Rattle.turn_answers.proofs.value_held.Tie as tie
 

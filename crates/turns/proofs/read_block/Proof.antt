@@ -1,6 +1,6 @@
 use mathlib.Core.Path.{sym, ap, _∙_}
 use Rattle.octets.specs.Octets.{entry}
-use Rattle.header.specs.declared.Verdict.{Verdict}
+use Rattle.reasons.specs.declared.Verdict.{Verdict}
 use Rattle.format.specs.Lent.{lentKeys}
 use Rattle.format.specs.Sealed.{opened}
 use Rattle.format.proofs.Sizes.{encrypt-sized, decrypt-sized}

@@ -6,7 +6,7 @@ use lib.Seq.{length-take-le}
 use Rattle.octets.specs.Octets.{Bytes, entry}
 use Rattle.octets.proofs.Blocks.{take-bytes, drop-bytes}
 use Rattle.layout.specs.Layout.{headOf}
-use Rattle.header.specs.declared.Progress.{Progress}
+use Rattle.progress.specs.declared.Progress.{Progress}
 use Rattle.format.specs.Judge.{either, ofBoth}
 use Rattle.format.specs.Lent.{lentKeys}
 use Rattle.format.proofs.Sizes.{encrypt-sized, decrypt-sized, opened-size}

@@ -1,4 +1,4 @@
-use Rattle.blocks.proofs.Laws.{copied-fits}
+use Rattle.slices.proofs.Laws.{copied-fits}
 use native.Mathlib.Omega.{arith}
 use mathlib.Core.Path.{_∙_}
 use borrow.Author.Tests.{not-true, not-false}

@@ -3,7 +3,7 @@ use mathlib.Core.Bool.{Bool}
 use lib.ListN.{length}
 use mir.Syntax.{w8}
 use Rattle.octets.specs.Octets.{Bytes}
-use Rattle.writer.specs.Calls.{writeRuled}
+use Rattle.write_answers.specs.Answers.{writeRuled}
 use Rattle.writer.proofs.Calls.{write-answered, write-fits, written-by, write-kept}
 use native.Mathlib.Omega.{arith}
 use borrow.Author.Needs.{needs, elem-fits}
