@@ -1,12 +1,13 @@
 -- Over the tables of the standard, what the code opens, judges and seals is what AES opens, judges and seals. Assumes nothing.
 use mathlib.Core.Path.{_≡_, refl, sym, ap, ap₂, _∙_}
-use mathlib.Core.Bool.{Bool, true, false, _&&_}
+use mathlib.Core.Bool.{Bool, true, false}
 use mathlib.Core.List.{List, _++_}
 use Prim.Native.Nat.{ℕ, _-_, _≤_}
 use native.Mathlib.Nat.{zero-lt-suc}
 use native.Mathlib.Omega.{arith}
 use borrow.Author.Tests.{not-false}
 use lib.ListN.{length, take, drop, replicate, length-drop}
+use Rattle.octets.proofs.Both.{and-true}
 use Rattle.octets.specs.Octets.{choose, padTo, same, Bytes, Octets}
 use Rattle.octets.specs.Blocks.{BlockCipher, Lawful}
 use Rattle.octets.proofs.Fill.{length-padTo}
@@ -120,11 +121,7 @@ module _ (t t' : List ℕ) (pt : t ≡ forwardTable) (pi : t' ≡ inverseTable) 
     standardKeys = record { enc = standard ew (n .enc); mac = cmac (standard cw (n .chk)); usable = usable n }
 
     known : usable n ≡ true → (roundCount (n .enc) ≡ true) × (roundCount (n .chk) ≡ true)
-    known e = both (roundCount (n .enc)) (roundCount (n .chk)) e
-      where
-        both : (x y : Bool) → (x && y) ≡ true → (x ≡ true) × (y ≡ true)
-        both true y q = (refl, q)
-        both false y q = let z : _≡_ {A = ℕ} 0 1 = cc in absurd (omega arith)
+    known = and-true (roundCount (n .enc)) (roundCount (n .chk))
 
     -- both refuse every block where no keys gave the schedules
     refused : (k : Keys) → k .usable ≡ false → judge k ed s b ≡ choose (closed s) (Refused AfterLast) (Refused CheckWrong)
@@ -144,8 +141,4 @@ module _ (t t' : List ℕ) (pt : t ≡ forwardTable) (pi : t' ≡ inverseTable) 
 
     pub plain-same : judge standardKeys ed s b ≡ Accepted → opened (keys .enc) b ≡ opened (standardKeys .enc) b
     unfolding judge
-    plain-same e = open-same (first (usable n) (checks (standardKeys .mac) (ed .tail (s .last)) b) (not-false _ (all-false (tests standardKeys ed s b) e .1 .0)))
-      where
-        first : (x y : Bool) → (x && y) ≡ true → x ≡ true
-        first true y q = refl
-        first false y q = q
+    plain-same e = open-same (and-true (usable n) (checks (standardKeys .mac) (ed .tail (s .last)) b) (not-false _ (all-false (tests standardKeys ed s b) e .1 .0)) .0)

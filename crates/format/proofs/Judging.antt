@@ -8,6 +8,7 @@ use borrow.Author.Tests.{eqb-true, eqb-false, eq-eqb, leb-true, not-false}
 use lib.Dec.{eqb, ltb, leb}
 use lib.ListN.{length, take, drop, length-drop}
 use lib.Seq.{take-all}
+use Rattle.octets.proofs.Both.{and-true}
 use Rattle.octets.specs.Octets.{same}
 use Rattle.blocks.specs.Blocks.{blockAt}
 use Rattle.blocks.proofs.Laws.{block-at}
@@ -121,11 +122,7 @@ module _ (k : Keys) (ed : Edition) (s : Progress) (b : List ℕ) where
 
       -- a right check is a block's, so the header read is the block's own, and the fill's test is the one asked
       pub block-size : Sixteen (k .mac) → length b ≡ 512
-      block-size es = checks-block (k .mac) es (ed .tail (s .last)) b (second (k .usable) (checks (k .mac) (ed .tail (s .last)) b) e2)
-        where
-          second : (t u : Bool) → (t && u) ≡ true → u ≡ true
-          second true u q = q
-          second false u q = let y : _≡_ {A = ℕ} 0 1 = cc in absurd (omega arith)
+      block-size es = checks-block (k .mac) es (ed .tail (s .last)) b (and-true (k .usable) (checks (k .mac) (ed .tail (s .last)) b) e2 .1)
 
       module _ (es : Sixteen (k .mac)) (h : Head) (eh : h ≡ headRead b) (mark : ℕ) (em : h ≡ headOf b → mark ≡ ed .mark) where
         head-is : h ≡ headOf b
@@ -161,11 +158,7 @@ module _ (k : Keys) (ed : Edition) (s : Progress) (b : List ℕ) where
       let h = headOf b in
       let fits = not-false (countFits (h .count)) (a .1 .1 .0) in
       let n = eqb-true (h .number) (s .next) (not-false (eqb (h .number) (s .next)) (a .1 .1 .1 .0)) in
-      omega (arith, n, number-below s h (a .0) fits n (a .1 .1 .1 .1 .0), leb-true (h .count) 65535 (both (ltb 0 (h .count)) (leb (h .count) 65535) fits))
-    where
-      both : (t u : Bool) → (t && u) ≡ true → u ≡ true
-      both true u q = q
-      both false u q = let y : _≡_ {A = ℕ} 0 1 = cc in absurd (omega arith)
+      omega (arith, n, number-below s h (a .0) fits n (a .1 .1 .1 .1 .0), leb-true (h .count) 65535 (and-true (ltb 0 (h .count)) (leb (h .count) 65535) fits .1))
 
 -- ---- the reader of both editions: cover and mark are chosen by the header read
 

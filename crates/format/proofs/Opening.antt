@@ -8,6 +8,7 @@ use borrow.Author.Tests.{eq-eqb, ne-eqb, le-leb, lt-leb, leb-true, leb-false, no
 use lib.Dec.{eqb, leb}
 use lib.ListN.{length, getD, take, drop, length-drop, drop-of-length-le}
 use lib.Seq.{take-add, take-take, drop-at, drop-cons, drop-drop, drop-append-le, length-take-le}
+use Rattle.octets.proofs.Both.{and-true}
 use Rattle.octets.specs.Blocks.{_⊕_, BlockCipher}
 use Rattle.blocks.specs.Blocks.{blockAt}
 use Rattle.blocks.proofs.Laws.{block-at}
@@ -39,11 +40,7 @@ module _ (s : List ℕ) (from : ℕ) where
 
     -- whether the byte there is one that is to be zero and is not
     pub reached-not : (leb from i && not (eqb (getD s i 0) 0)) ≡ true → false ≡ allZero (drop (max from i) s)
-    reached-not e = let a = both (leb from i) (not (eqb (getD s i 0) 0)) e in rw (here (leb-true from i (a .0)), not-true (eqb (getD s i 0) 0) (a .1))
-      where
-        both : (t u : Bool) → (t && u) ≡ true → (t ≡ true) × (u ≡ true)
-        both true u q = (refl, q)
-        both false u q = let y : _≡_ {A = ℕ} 0 1 = cc in absurd (omega arith)
+    reached-not e = let a = and-true (leb from i) (not (eqb (getD s i 0) 0)) e in rw (here (leb-true from i (a .0)), not-true (eqb (getD s i 0) 0) (a .1))
 
     pub reached-more : (leb from i && not (eqb (getD s i 0) 0)) ≡ false → allZero (drop (max from (i + 1)) s) ≡ allZero (drop (max from i) s)
     reached-more e = go (leb from i) refl e

@@ -1,10 +1,11 @@
 -- The number of a block that passes 16, 7, 8 and 9 is below its count. Assumes nothing.
 use mathlib.Core.Path.{_≡_, refl}
 use mathlib.Core.Bool.{Bool, true, false, _&&_, not}
-use Prim.Native.Nat.{ℕ, _<_}
+use Prim.Native.Nat.{_<_}
 use native.Mathlib.Omega.{arith}
 use borrow.Author.Tests.{ltb-true, ltb-false, leb-false, eqb-true, not-false}
 use lib.Dec.{eqb, ltb, leb}
+use Rattle.octets.proofs.Both.{and-true}
 use Rattle.limits.specs.Fits.{countFits}
 use Rattle.progress.specs.Progress.{closed}
 use Rattle.layout.specs.declared.Head.{Head}
@@ -16,10 +17,6 @@ pub number-below : (s : Progress) (h : Head) → closed s ≡ false → countFit
 unfolding closed countFits
 number-below s h e16 e7 e8 e9 = go (ltb 0 (s .next)) refl e16 e9
   where
-    left : (t u : Bool) → (t && u) ≡ true → t ≡ true
-    left true u q = refl
-    left false u q = let y : _≡_ {A = ℕ} 0 1 = cc in absurd (omega arith)
-
     go : (t : Bool) → ltb 0 (s .next) ≡ t → (t && leb (s .count) (s .next)) ≡ false → (t && not (eqb (h .count) (s .count))) ≡ false → h .number < h .count
     go true e f g = omega (arith, e8, leb-false (s .count) (s .next) f, eqb-true (h .count) (s .count) (not-false (eqb (h .count) (s .count)) g))
-    go false e f g = omega (arith, e8, ltb-false 0 (s .next) e, ltb-true 0 (h .count) (left (ltb 0 (h .count)) (leb (h .count) 65535) e7))
+    go false e f g = omega (arith, e8, ltb-false 0 (s .next) e, ltb-true 0 (h .count) (and-true (ltb 0 (h .count)) (leb (h .count) 65535) e7 .0))

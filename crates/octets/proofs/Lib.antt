@@ -5,3 +5,4 @@ pub mod Words
 pub mod Blocks
 pub mod Arms
 pub mod Same
+pub mod Both

@@ -17,7 +17,8 @@ use Rattle.wrap_answers.specs.declared.WrapAnswer.{WrapAnswer}
 use Rattle.wrap_answers.specs.declared.WrapAnswer.the-variants.{WrapDone, WrapKey, WrapSize, WrapRoom, WrongInitial}
 use Rattle.promises.proofs.Keys.{KeyTaken}
 use Rattle.promises.proofs.WrapTerms.{afterWrap, afterUnwrap, WrapFit, WrapSays, UnwrapFit, UnwrapSays, WrappingOf}
-use Rattle.promises.proofs.Lemmas.WrapLaws.{step-octets, unstep-octets, unstep-step, step-unstep, pass-octets, unpass-octets, unpass-pass, pass-unpass, passes-octets, unpasses-octets, unpasses-passes, passes-unpasses, wrapped-octets, unwrapped-wrapped, opened-octets, wrapped-unwrapped, size-rule, rule-size, wrapped-size-rule, rule-wrapped-size, size-wraps, size-unwraps, wrap-says, unwrap-says, wrap-fits, unwrap-fits, done-fits, wrap-keeps, unwrap-keeps, over-first}
+use Rattle.wrap_answers.proofs.Sizes.{size-parts, size-right, wrapped-size-parts, wrapped-size-right}
+use Rattle.promises.proofs.Lemmas.WrapLaws.{step-octets, unstep-octets, unstep-step, step-unstep, pass-octets, unpass-octets, unpass-pass, pass-unpass, passes-octets, unpasses-octets, unpasses-passes, passes-unpasses, wrapped-octets, unwrapped-wrapped, opened-octets, wrapped-unwrapped, size-wraps, size-unwraps, wrap-says, unwrap-says, wrap-fits, unwrap-fits, done-fits, wrap-keeps, unwrap-keeps, over-first}
 
 -- ---- demand 3, over every lawful block cipher: each way undoes the other
 
@@ -61,16 +62,16 @@ module _ (c : BlockCipher) (l : Lawful 16 c) where
 
 -- the sizes in the rule
 pub size-as-told : (n : ℕ) → sizeFits n ≡ true → (16 ≤ n) × (n ≤ 64) × (n % 8 ≡ 0)
-size-as-told n e = size-rule n e
+size-as-told n e = size-parts n e
 
 pub size-in-rule : (n : ℕ) → 16 ≤ n → n ≤ 64 → n % 8 ≡ 0 → sizeFits n ≡ true
-size-in-rule n l h e = rule-size n l h e
+size-in-rule n l h e = size-right n l h e
 
 pub wrapped-size-as-told : (n : ℕ) → wrappedSizeFits n ≡ true → (24 ≤ n) × (n ≤ 72) × (n % 8 ≡ 0)
-wrapped-size-as-told n e = wrapped-size-rule n e
+wrapped-size-as-told n e = wrapped-size-parts n e
 
 pub wrapped-size-in-rule : (n : ℕ) → 24 ≤ n → n ≤ 72 → n % 8 ≡ 0 → wrappedSizeFits n ≡ true
-wrapped-size-in-rule n l h e = rule-wrapped-size n l h e
+wrapped-size-in-rule n l h e = wrapped-size-right n l h e
 
 -- every answer says what the table says of it; where no test fails, the call is done
 pub wrap-answer-as-told : (key dat out : List ℕ) → WrapSays key (length dat) (length out) (wrapAnswer key dat out)
@@ -110,7 +111,7 @@ module _ (key p : List ℕ) (taken : KeyTaken key) (b : Bytes p) (size : sizeFit
   lawful = key-lawful key taken
 
   whole : length p % 8 ≡ 0
-  whole = size-rule (length p) size .2
+  whole = size-parts (length p) size .2
 
   octets : Octets (length p + 8) (wrapped (aesOf key) p)
   octets = wrapped-octets (aesOf key) lawful p b whole
@@ -159,7 +160,7 @@ module _ (key p : List ℕ) (taken : KeyTaken key) (b : Bytes p) (size : sizeFit
 pub accepted-is-a-wrapping : (key dat out : List ℕ) → Bytes dat → unwrapAnswer key dat out ≡ WrapDone → WrappingOf key dat
 accepted-is-a-wrapping key dat out b e =
     let f = done-fits key dat out e in
-    let r = wrapped-size-rule (length dat) (f .size-fits) in
+    let r = wrapped-size-parts (length dat) (f .size-fits) in
     let l = key-lawful key (f .key-taken) in
     let o = opened-octets (aesOf key) l dat b (r .2) (omega (arith, r .0)) in
     record {
@@ -197,7 +198,7 @@ no-wrapping-is-refused key dat out taken b size room none = go (unwrapAnswer key
 pub a-wrapping-of-one : (key dat : List ℕ) → KeyTaken key → (x y : WrappingOf key dat) → x .plain ≡ y .plain
 a-wrapping-of-one key dat taken x y =
     wrapped-injective (aesOf key) (key-lawful key taken) (x .plain) (y .plain) (x .plain-bytes) (y .plain-bytes)
-    (size-rule (length (x .plain)) (x .plain-size) .2) (size-rule (length (y .plain)) (y .plain-size) .2) (sym (x .is-wrapped) ∙ y .is-wrapped)
+    (size-parts (length (x .plain)) (x .plain-size) .2) (size-parts (length (y .plain)) (y .plain-size) .2) (sym (x .is-wrapped) ∙ y .is-wrapped)
 
 -- and that key data is handed out: the first bytes of the output are it, and the rest stays
 pub accepted-is-handed-out : (key dat out : List ℕ) → unwrapAnswer key dat out ≡ WrapDone → (x : WrappingOf key dat)

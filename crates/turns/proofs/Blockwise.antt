@@ -7,9 +7,10 @@ use borrow.Author.Tests.{ltb-false}
 use Prim.Native.Nat.{ℕ, suc, _+_, _-_, _*_, _%_, _≤_, _<_}
 use native.Mathlib.Nat.{zero-add, add-zero, sub-zero}
 use native.Mathlib.Omega.{arith}
-use lib.ListN.{length, take, drop, length-append, length-drop, take-append-drop}
+use lib.ListN.{length, take, drop, length-append, length-take, length-drop, take-append-drop}
 use lib.Seq.{take-all, take-at, drop-at, drop-drop, length-take-le}
 use Rattle.octets.specs.Octets.{Bytes, over}
+use Rattle.octets.proofs.Blocks.{take-bytes, drop-bytes}
 use Rattle.blocks.specs.Blocks.{blockAt}
 use Rattle.blocks.proofs.Laws.{block-at}
 use Rattle.layout.specs.Layout.{headOf}
@@ -110,7 +111,7 @@ len-fits : (b : List ℕ) → Bytes b → headOf b .len ≤ 65535
 unfolding headOf
 len-fits b h = omega (arith, h 12, h 13)
 
-pub part-is : (bl : List ℕ) (j : ℕ) → take (j * 512 + 512 - j * 512) (drop (j * 512) bl) ≡ take 512 (drop (j * 512) bl)
+part-is : (bl : List ℕ) (j : ℕ) → take (j * 512 + 512 - j * 512) (drop (j * 512) bl) ≡ take 512 (drop (j * 512) bl)
 part-is bl j =
     let e : j * 512 + 512 - j * 512 ≡ 512 = omega arith in
     ap (λ (n : ℕ). take n (drop (j * 512) bl)) e
@@ -158,8 +159,13 @@ part-put out at x plain o e eo =
     let n : at + 480 - at ≡ 480 = omega arith in
     eo ∙ rw (e, n, drop-drop 480 at out)
 
-pub part-size : (out : List ℕ) (at : ℕ) → at + 480 ≤ length out → length (take (at + 480 - at) (drop at out)) ≡ 480
-part-size out at h = length-take-le (at + 480 - at) (drop at out) (omega (arith, length-drop at out)) ∙ omega arith
+-- n bytes of a list from a place on, as a part of a slice is lent
+abbrev pub part : List ℕ → ℕ → ℕ → List ℕ
+part s at n = take (at + n - at) (drop at s)
+
+-- a part that could be lent is within the whole
+part-room : (s : List ℕ) (at n : ℕ) → length (part s at n) ≡ at + n - at → 0 < n → at + n ≤ length s
+part-room s at n e h = omega (arith, length-take (at + n - at) (drop at s), length-drop at s)
 
 pub part-keeps : (out : List ℕ) (at : ℕ) (plain o : List ℕ) → at + 480 ≤ length out → length plain ≡ 480 → o ≡ take at out ++ (plain ++ drop (at + 480) out) → length o ≡ length out
 part-keeps out at plain o h size e =
@@ -214,20 +220,38 @@ ahead-end d bl n t out e = go (t .stop) refl e
     go Room q f = refl
     go (At place reason) q f = refl
 
--- one block more
-module _ (d : BlockReader) (bl : List ℕ) (n : ℕ) (t : BlocksRead) (out : List ℕ) (going : t .stop ≡ End) (h : t .accepted < n) (most : n ≤ 128) (within : t .bytes ≤ t .accepted * 65535)
-    (b : List ℕ) (eb : b ≡ take 512 (drop (t .accepted * 512) bl)) (bytes : Bytes b) (size : length (d .plain b) ≡ 480) (room : t .accepted * 480 + 480 ≤ length out)
-    (new : BlocksRead) (en : new ≡ stepped (d .verdict (t .progress) b) t (headOf b) (drop 496 b))
-    (x y o : List ℕ) (ex : x ≡ take (t .accepted * 480 + 480 - t .accepted * 480) (drop (t .accepted * 480) out)) (ey : y ≡ partAfter (d .verdict (t .progress) b) (d .plain b) x)
-    (eo : o ≡ take (t .accepted * 480) out ++ (y ++ drop (t .accepted * 480 + 480 - t .accepted * 480) (drop (t .accepted * 480) out))) where
+-- what a turn that goes on has at hand: the next block is lent, its part of the output is there, and its sums are small
+pub record Ready (d : BlockReader) (bl : List ℕ) (n : ℕ) (t : BlocksRead) (out : List ℕ) : Type 0 where
+  pub going : t .stop ≡ End
+  pub here : t .accepted < n
+  pub most : n ≤ 128
+  pub within : t .bytes ≤ t .accepted * 65535
+  pub there : t .accepted * 512 + 512 ≤ length bl
+  pub room : t .accepted * 480 + 480 ≤ length out
+  pub bytes : Bytes bl
+  pub sized : (b : List ℕ) → length b ≡ 512 → length (d .plain b) ≡ 480
+  pub small : (b : List ℕ) → d .verdict (t .progress) b ≡ Accepted → t .progress .next < 65535
+
+-- one block more: any block of those lent, opened at any place of the output; that they are the turn's own is asked only for the last
+module _ (d : BlockReader) (bl : List ℕ) (n : ℕ) (t : BlocksRead) (out : List ℕ) (r : Ready d bl n t out)
+    (from : ℕ) (lent : length (part bl from 512) ≡ from + 512 - from) (at : ℕ) (given : length (part out at 480) ≡ at + 480 - at)
+    (b : List ℕ) (eb : b ≡ part bl from 512) (new : BlocksRead) (en : new ≡ stepped (d .verdict (t .progress) b) t (headOf b) (drop 496 b))
+    (x y o : List ℕ) (ex : x ≡ part out at 480) (ey : y ≡ partAfter (d .verdict (t .progress) b) (d .plain b) x)
+    (eo : o ≡ take at out ++ (y ++ drop (at + 480 - at) (drop at out))) where
+  size : length b ≡ 512
+  size = ap length eb ∙ lent ∙ omega arith
+
+  bytes : Bytes b
+  bytes = rw eb (take-bytes (from + 512 - from) (drop from bl) (drop-bytes from bl (r .bytes)))
+
   -- a part that was not written leaves the output as it was
   part-back : y ≡ x → o ≡ out
   part-back e =
-      let m : t .accepted * 480 + 480 - t .accepted * 480 ≡ 480 = omega arith in
-      eo ∙ rw (e, ex, m) (ap (λ (z : List ℕ). take (t .accepted * 480) out ++ z) (take-append-drop 480 (drop (t .accepted * 480) out)) ∙ take-append-drop (t .accepted * 480) out)
+      let m : at + 480 - at ≡ 480 = omega arith in
+      eo ∙ rw (e, ex, m) (ap (λ (z : List ℕ). take at out ++ z) (take-append-drop 480 (drop at out)) ∙ take-append-drop at out)
 
   by-verdict : (P : BlocksRead → List ℕ → Type 0)
-      → (d .verdict (t .progress) b ≡ Accepted → (o ≡ take (t .accepted * 480) out ++ (d .plain b ++ drop (t .accepted * 480 + 480) out)) → P (blocksReadWith (following (t .progress) (headOf b) (drop 496 b)) (t .accepted + 1) (t .bytes + headOf b .len) End) o)
+      → (d .verdict (t .progress) b ≡ Accepted → (o ≡ take at out ++ (d .plain b ++ drop (at + 480) out)) → P (blocksReadWith (following (t .progress) (headOf b) (drop 496 b)) (t .accepted + 1) (t .bytes + headOf b .len) End) o)
       → ((reason : Reason) → d .verdict (t .progress) b ≡ Refused reason → P (blocksReadWith (t .progress) (t .accepted) (t .bytes) (At (t .accepted) reason)) out)
       → P new o
   by-verdict P good bad = go (d .verdict (t .progress) b) refl
@@ -235,31 +259,37 @@ module _ (d : BlockReader) (bl : List ℕ) (n : ℕ) (t : BlocksRead) (out : Lis
       go : (v : Verdict) → d .verdict (t .progress) b ≡ v → P new o
       go Accepted q =
           let e : new ≡ blocksReadWith (following (t .progress) (headOf b) (drop 496 b)) (t .accepted + 1) (t .bytes + headOf b .len) End =
-          en ∙ ap (λ (v : Verdict). stepped v t (headOf b) (drop 496 b)) q ∙ stepped-plain t (headOf b) (drop 496 b) (omega arith) within (len-fits b bytes)
-          ∙ ap (λ (z : Stop). blocksReadWith (following (t .progress) (headOf b) (drop 496 b)) (t .accepted + 1) (t .bytes + headOf b .len) z) going in
-          rw e (good q (part-put out (t .accepted * 480) y (d .plain b) o (ey ∙ ap (λ (v : Verdict). partAfter v (d .plain b) x) q) eo))
+          en ∙ ap (λ (v : Verdict). stepped v t (headOf b) (drop 496 b)) q ∙ stepped-plain t (headOf b) (drop 496 b) (omega (arith, r .here, r .most)) (r .within) (len-fits b bytes)
+          ∙ ap (λ (z : Stop). blocksReadWith (following (t .progress) (headOf b) (drop 496 b)) (t .accepted + 1) (t .bytes + headOf b .len) z) (r .going) in
+          rw e (good q (part-put out at y (d .plain b) o (ey ∙ ap (λ (v : Verdict). partAfter v (d .plain b) x) q) eo))
       go (Refused reason) q =
           let e : new ≡ blocksReadWith (t .progress) (t .accepted) (t .bytes) (At (t .accepted) reason) = en ∙ ap (λ (v : Verdict). stepped v t (headOf b) (drop 496 b)) q in
           rw (e, part-back (ey ∙ ap (λ (v : Verdict). partAfter v (d .plain b) x) q)) (bad reason q)
 
-  pub step-keeps : length o ≡ length out
-  step-keeps = by-verdict (λ (u : BlocksRead) (z : List ℕ). length z ≡ length out) (λ q e. part-keeps out (t .accepted * 480) (d .plain b) o room size e) (λ reason q. refl)
+  step-keeps : length o ≡ length out
+  step-keeps = by-verdict (λ (u : BlocksRead) (z : List ℕ). length z ≡ length out) (λ q e. part-keeps out at (d .plain b) o (part-room out at 480 given (omega arith)) (r .sized b size) e) (λ reason q. refl)
 
-  pub step-within : (new .accepted ≤ n) × (new .bytes ≤ new .accepted * 65535)
+  step-within : (new .accepted ≤ n) × (new .bytes ≤ new .accepted * 65535)
   step-within =
       by-verdict (λ (u : BlocksRead) (z : List ℕ). (u .accepted ≤ n) × (u .bytes ≤ u .accepted * 65535))
-      (λ q e. (omega arith, omega (arith, len-fits b bytes))) (λ reason q. (omega arith, within))
+      (λ q e. (omega (arith, r .here), omega (arith, r .within, len-fits b bytes))) (λ reason q. (omega (arith, r .here), r .within))
 
-  pub step-less : toGo new n < toGo t n
+  step-less : toGo new n < toGo t n
   unfolding toGo leftBy
   step-less =
-      rw going
-      (by-verdict (λ (u : BlocksRead) (z : List ℕ). leftBy (u .stop) (n - u .accepted) < suc (n - t .accepted)) (λ q e. omega arith) (λ reason q. omega arith))
+      rw (r .going)
+      (by-verdict (λ (u : BlocksRead) (z : List ℕ). leftBy (u .stop) (n - u .accepted) < suc (n - t .accepted)) (λ q e. omega (arith, r .here)) (λ reason q. omega arith))
 
-  pub step-ahead : (d .verdict (t .progress) b ≡ Accepted → t .progress .next < 65535) → ahead d bl n new o ≡ ahead d bl n t out
+  step-ahead : from ≡ t .accepted * 512 → at ≡ t .accepted * 480 → ahead d bl n new o ≡ ahead d bl n t out
   unfolding ahead aheadBy
-  step-ahead small =
-      rw going
+  step-ahead ef ea =
+      let el : b ≡ take 512 (drop (t .accepted * 512) bl) = eb ∙ ap (λ (a : ℕ). part bl a 512) ef ∙ part-is bl (t .accepted) in
+      rw (r .going)
       (by-verdict (λ (u : BlocksRead) (z : List ℕ). aheadBy (u .stop) d bl n u z ≡ finish (t .accepted) (t .bytes) out (readBlocks d (t .progress) (cut (n - t .accepted) (drop (t .accepted * 512) bl))))
-      (λ q e. step-accepted d bl (t .progress) (t .accepted) n (t .bytes) out h b eb _ refl q size room (small q) o e)
-      (λ reason q. step-refused d bl (t .progress) (t .accepted) n (t .bytes) out h b eb _ refl reason q))
+      (λ q e. step-accepted d bl (t .progress) (t .accepted) n (t .bytes) out (r .here) b el _ refl q (r .sized b size) (r .room) (r .small b q) o
+      (e ∙ ap (λ (a : ℕ). take a out ++ (d .plain b ++ drop (a + 480) out)) ea))
+      (λ reason q. step-refused d bl (t .progress) (t .accepted) n (t .bytes) out (r .here) b el _ refl reason q))
+
+  pub one-more : (toGo new n < toGo t n) × (new .accepted ≤ n) × (length o ≡ length out) × (new .bytes ≤ new .accepted * 65535)
+      × (from ≡ t .accepted * 512 → at ≡ t .accepted * 480 → ahead d bl n new o ≡ ahead d bl n t out)
+  one-more = (step-less, step-within .0, step-keeps, step-within .1, step-ahead)

@@ -1,12 +1,12 @@
 -- A turn's own tests, and where none of them refuses. Assumes nothing.
 use mathlib.Core.Path.{_≡_, ap₂, _∙_}
-use mathlib.Core.Bool.{Bool, true, false, _&&_}
+use mathlib.Core.Bool.{true, false, _&&_}
 use mathlib.Core.List.{List}
 use Prim.Native.Nat.{ℕ, _*_, _%_, _≤_}
-use native.Mathlib.Omega.{arith}
 use borrow.Author.Tests.{leb-true}
 use lib.Dec.{eqb, ltb, leb}
 use lib.ListN.{length}
+use Rattle.octets.proofs.Both.{and-true}
 use Rattle.octets.specs.Octets.{over}
 use Rattle.progress.specs.declared.Progress.{Progress}
 use Rattle.format.specs.Judge.{Keys, ofBoth}
@@ -25,11 +25,7 @@ module _ (n : Keys) (s : Progress) (given : List ℕ) (asked : ℕ) (out : List 
     turn-lent e2 = rw (e1, e2)
 
     pub asked-most : asked ≤ 128
-    asked-most = leb-true asked 128 (second (ltb 0 asked) (leb asked 128) e1)
-      where
-        second : (t u : Bool) → (t && u) ≡ true → u ≡ true
-        second true u q = q
-        second false u q = let y : _≡_ {A = ℕ} 0 1 = cc in absurd (omega arith)
+    asked-most = leb-true asked 128 (and-true (ltb 0 asked) (leb asked 128) e1 .1)
 
     module _ (e2 : eqb (length given % 512) 0 ≡ true) (k : ℕ) (ek : k ≡ handled given asked) where
       pub turn-room : ltb (length out) (k * 480) ≡ true → (whole s Room, out) ≡ turnUnder n s given asked out

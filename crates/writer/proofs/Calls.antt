@@ -9,6 +9,7 @@ use denote.Enum.Declared.{tagOf}
 use borrow.Author.Tests.{eqb-true, ltb-false, leb-true, le-leb}
 use lib.Dec.{eqb, ltb, leb}
 use lib.ListN.{length}
+use Rattle.octets.proofs.Both.{and-true}
 use Rattle.octets.specs.Octets.{Bytes, choose, over}
 use Rattle.octets.proofs.Blocks.{zeros-bytes}
 use Rattle.sbox.specs.Sbox.{sBox}
@@ -80,11 +81,7 @@ module _ (ekey ckey : List ℕ) (e c : Expanded) (enc-is : e ≡ scheduleOf sBox
       go (bothTaken e c) refl (countFits (n .count)) (ltb (n .number) (n .count)) (lengthFits (n .number) (n .count) (length payload)) refl (isEdition (n .edition)) refl (ltb (length out) 512) refl (sym pa ∙ q)
     where
       least : (t u v : Bool) → choose t (leb (length payload) 480 && u) v ≡ true → (v ≡ true → length payload ≤ 480) → length payload ≤ 480
-      least true u v f g = leb-true (length payload) 480 (first (leb (length payload) 480) u f)
-        where
-          first : (x y : Bool) → (x && y) ≡ true → x ≡ true
-          first true y z = refl
-          first false y z = z
+      least true u v f g = leb-true (length payload) 480 (and-true (leb (length payload) 480) u f .0)
       least false u v f g = g f
 
       go : (k : Bool) → bothTaken e c ≡ k → (m b l : Bool) → lengthFits (n .number) (n .count) (length payload) ≡ l → (i : Bool) → isEdition (n .edition) ≡ i → (o : Bool) → ltb (length out) 512 ≡ o
@@ -107,13 +104,9 @@ module _ (ekey ckey : List ℕ) (e c : Expanded) (enc-is : e ≡ scheduleOf sBox
 
   keys-taken : a ≡ Written → (keyNumber (scheduleOf sBox ekey .answer) ≡ 0) × (keyNumber (scheduleOf sBox ckey .answer) ≡ 0)
   keys-taken q =
-      let b = both (eqb (keyNumber (e .answer)) 0) (eqb (keyNumber (c .answer)) 0) (passed q .keys) in
+      let b = and-true (eqb (keyNumber (e .answer)) 0) (eqb (keyNumber (c .answer)) 0) (passed q .keys) in
       (taken e ekey enc-is (b .0), taken c ckey chk-is (b .1))
     where
-      both : (x y : Bool) → (x && y) ≡ true → (x ≡ true) × (y ≡ true)
-      both true y z = (refl, z)
-      both false y z = let w : _≡_ {A = ℕ} 0 1 = cc in absurd (omega arith)
-
       taken : (x : Expanded) (key : List ℕ) → x ≡ scheduleOf sBox key → eqb (keyNumber (x .answer)) 0 ≡ true → keyNumber (scheduleOf sBox key .answer) ≡ 0
       taken x key ex ez = ap (λ (y : Expanded). keyNumber (y .answer)) (sym ex) ∙ eqb-true (keyNumber (x .answer)) 0 ez
 

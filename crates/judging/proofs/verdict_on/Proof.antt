@@ -1,15 +1,49 @@
 use mathlib.Core.Path.{_≡_, sym, ap, _∙_}
-use Prim.Native.Nat.{ℕ}
-use lib.ListN.{length}
+use mathlib.Core.Bool.{false}
+use Prim.Native.Nat.{ℕ, _-_}
+use lib.ListN.{length, take}
 use Rattle.limits.specs.Marks.{selected, tailSize}
+use Rattle.progress.specs.Progress.{closed}
+use Rattle.format.specs.Edition.{tailOf}
+use Rattle.format.specs.Judge.{Keys}
 use Rattle.format.specs.Lent.{lentKeys}
-use Rattle.format.proofs.Sizes.{mac-sized}
+use Rattle.format.proofs.Sizes.{Sixteen, mac-sized}
 use Rattle.format.proofs.Editions.{tail-part, tail-size-most}
 use Rattle.format.proofs.Judging.{flip, both-last, both-check, both-head, both-fill, both-passed}
 use native.Mathlib.Omega.{arith}
 use borrow.Author.Needs.{needs, length-unmapped}
 use Rattle.judging.proofs.verdict_on.Statement.{statement}
 use Rattle.judging.proofs.verdict_on.Tie as tie
+
+-- ---- what is known once the check was asked for
+
+abbrev Asked : Type 0
+Asked = tie.After-check-holds
+
+abbrev start : Asked → tie.Start
+start m = m .before .before .before .before .before .before .before .before .before
+
+abbrev keys : tie.Start → Keys
+keys s =
+    let a = s .args in
+    lentKeys (a .forth .now) (a .back .now) (a .ewords .now) (a .dwords .now) (a .cwords .now) (a .key1 .now) (a .key2 .now) (a .rounds)
+
+sized : (s : tie.Start) → Sixteen (keys s .mac)
+sized s = let a = s .args in mac-sized (a .forth .now) (a .cwords .now) (a .rounds .chk) (a .key1 .now) (a .key2 .now)
+
+last-size : (s : tie.Start) → length (s .args .progress .last) ≡ 16
+last-size s = length-unmapped ℕ (s .args .progress .last) 16 (s .good .1 .1 .1 .1 .1 .1 .1 .1 .0 .1 .1 .1 .1 .1 .1 .0 .1 .0 .1)
+
+more : (m : Asked) → closed (start m .args .progress) ≡ false
+more m = let d = m .before .before .before .before .before .before in sym (d .before .closed .ensures) ∙ d .if1 .left
+
+covered : (m : Asked) → take (m .before .before .before .tail-size .result - 0) (start m .args .progress .last) ≡ tailOf (selected (start m .args .head .reserved)) (start m .args .progress .last)
+covered m =
+    let t = m .before .before .before in
+    let a = start m .args in
+    tail-part (selected (a .head .reserved)) (t .tail-size .result) (a .progress .last) (last-size (start m)) (t .tail-size .ensures ∙ ap tailSize (t .before .selected .ensures))
+
+-- ---- the needs
 
 closed-requires : tie.Need-closed-requires
 closed-requires c κs = search needs
@@ -18,8 +52,7 @@ returns : tie.Need-returns
 returns c =
     let s = c .before .before .before in
     let a = s .args in
-    both-last (lentKeys (a .forth .now) (a .back .now) (a .ewords .now) (a .dwords .now) (a .cwords .now) (a .key1 .now) (a .key2 .now) (a .rounds)) (mac-sized (a .forth .now) (a .cwords .now) (a .rounds .chk) (a .key1 .now) (a .key2 .now))
-    (a .progress) (a .block .now) (a .head) (s .pre) (sym (c .before .closed .ensures) ∙ c .if1 .taken)
+    both-last (keys s) (sized s) (a .progress) (a .block .now) (a .head) (s .pre) (sym (c .before .closed .ensures) ∙ c .if1 .taken)
 
 selected-requires : tie.Need-selected-requires
 selected-requires c κs = search needs
@@ -35,10 +68,8 @@ part-check-holds-start c = search needs
 
 part-check-holds-end : tie.Need-part-check-holds-end
 part-check-holds-end c =
-    let d = c .before .before .before .before in
-    let s = d .before .before .before in
-    let g : length (s .args .progress .last) ≡ 16 = length-unmapped ℕ (s .args .progress .last) 16 (s .good .1 .1 .1 .1 .1 .1 .1 .1 .0 .1 .1 .1 .1 .1 .1 .0 .1 .0 .1) in
-    omega (arith, c .before .tail-size .ensures, tail-size-most (c .before .before .selected .result), g)
+    let s = c .before .before .before .before .before .before .before in
+    omega (arith, c .before .tail-size .ensures, tail-size-most (c .before .before .selected .result), last-size s)
 
 check-holds-requires : tie.Need-check-holds-requires
 check-holds-requires c κs = search needs
@@ -46,15 +77,9 @@ check-holds-requires c κs = search needs
 returns-2 : tie.Need-returns-2
 returns-2 c =
     let m = c .before in
-    let ts = m .before .before .before in
-    let d = ts .before .before .before in
-    let s = d .before .before .before in
+    let s = start m in
     let a = s .args in
-    let more = sym (d .before .closed .ensures) ∙ d .if1 .left in
-    let l : length (a .progress .last) ≡ 16 = length-unmapped ℕ (a .progress .last) 16 (s .good .1 .1 .1 .1 .1 .1 .1 .1 .0 .1 .1 .1 .1 .1 .1 .0 .1 .0 .1) in
-    let et = tail-part (selected (a .head .reserved)) (ts .tail-size .result) (a .progress .last) l (ts .tail-size .ensures ∙ ap tailSize (ts .before .selected .ensures)) in
-    both-check (lentKeys (a .forth .now) (a .back .now) (a .ewords .now) (a .dwords .now) (a .cwords .now) (a .key1 .now) (a .key2 .now) (a .rounds)) (mac-sized (a .forth .now) (a .cwords .now) (a .rounds .chk) (a .key1 .now) (a .key2 .now))
-    (a .progress) (a .block .now) (a .head) (s .pre) more _ et (sym (m .check-holds .ensures) ∙ flip _ (c .if2 .taken))
+    both-check (keys s) (sized s) (a .progress) (a .block .now) (a .head) (s .pre) (more m) _ (covered m) (sym (m .check-holds .ensures) ∙ flip _ (c .if2 .taken))
 
 mark-for-requires : tie.Need-mark-for-requires
 mark-for-requires c κs = search needs
@@ -73,15 +98,10 @@ returns-3 c =
     let h = c .before .before in
     let i = h .before .before in
     let m = i .before in
-    let ts = m .before .before .before in
-    let d = ts .before .before .before in
-    let s = d .before .before .before in
+    let s = start m in
     let a = s .args in
-    let more = sym (d .before .closed .ensures) ∙ d .if1 .left in
-    let l : length (a .progress .last) ≡ 16 = length-unmapped ℕ (a .progress .last) 16 (s .good .1 .1 .1 .1 .1 .1 .1 .1 .0 .1 .1 .1 .1 .1 .1 .0 .1 .0 .1) in
-    let et = tail-part (selected (a .head .reserved)) (ts .tail-size .result) (a .progress .last) l (ts .tail-size .ensures ∙ ap tailSize (ts .before .selected .ensures)) in
-    both-head (lentKeys (a .forth .now) (a .back .now) (a .ewords .now) (a .dwords .now) (a .cwords .now) (a .key1 .now) (a .key2 .now) (a .rounds)) (mac-sized (a .forth .now) (a .cwords .now) (a .rounds .chk) (a .key1 .now) (a .key2 .now))
-    (a .progress) (a .block .now) (a .head) (s .pre) more _ et (sym (m .check-holds .ensures) ∙ flip _ (i .if2 .left)) _ (h .before .mark-for .ensures) _ _ (h .judge-head .ensures) (c .enum-told2 .given .1)
+    both-head (keys s) (sized s) (a .progress) (a .block .now) (a .head) (s .pre) (more m) _ (covered m) (sym (m .check-holds .ensures) ∙ flip _ (i .if2 .left))
+    _ (h .before .mark-for .ensures) _ _ (h .judge-head .ensures) (c .enum-told2 .given .1)
 
 cast-len : tie.Need-cast-len
 cast-len c = search needs
@@ -95,15 +115,10 @@ returns-4 c =
     let h = t .before .before in
     let i = h .before .before in
     let m = i .before in
-    let ts = m .before .before .before in
-    let d = ts .before .before .before in
-    let s = d .before .before .before in
+    let s = start m in
     let a = s .args in
-    let more = sym (d .before .closed .ensures) ∙ d .if1 .left in
-    let l : length (a .progress .last) ≡ 16 = length-unmapped ℕ (a .progress .last) 16 (s .good .1 .1 .1 .1 .1 .1 .1 .1 .0 .1 .1 .1 .1 .1 .1 .0 .1 .0 .1) in
-    let et = tail-part (selected (a .head .reserved)) (ts .tail-size .result) (a .progress .last) l (ts .tail-size .ensures ∙ ap tailSize (ts .before .selected .ensures)) in
-    both-fill (lentKeys (a .forth .now) (a .back .now) (a .ewords .now) (a .dwords .now) (a .cwords .now) (a .key1 .now) (a .key2 .now) (a .rounds)) (mac-sized (a .forth .now) (a .cwords .now) (a .rounds .chk) (a .key1 .now) (a .key2 .now))
-    (a .progress) (a .block .now) (a .head) (s .pre) more _ et (sym (m .check-holds .ensures) ∙ flip _ (i .if2 .left)) _ (h .before .mark-for .ensures) (sym (t .enum-told .given .1) ∙ h .judge-head .ensures) (sym (c .before .fill-is-zero .ensures) ∙ flip _ (c .if3 .taken))
+    both-fill (keys s) (sized s) (a .progress) (a .block .now) (a .head) (s .pre) (more m) _ (covered m) (sym (m .check-holds .ensures) ∙ flip _ (i .if2 .left))
+    _ (h .before .mark-for .ensures) (sym (t .enum-told .given .1) ∙ h .judge-head .ensures) (sym (c .before .fill-is-zero .ensures) ∙ flip _ (c .if3 .taken))
 
 returns-5 : tie.Need-returns-5
 returns-5 c =
@@ -111,16 +126,11 @@ returns-5 c =
     let h = t .before .before in
     let i = h .before .before in
     let m = i .before in
-    let ts = m .before .before .before in
-    let d = ts .before .before .before in
-    let s = d .before .before .before in
+    let s = start m in
     let a = s .args in
-    let more = sym (d .before .closed .ensures) ∙ d .if1 .left in
-    let l : length (a .progress .last) ≡ 16 = length-unmapped ℕ (a .progress .last) 16 (s .good .1 .1 .1 .1 .1 .1 .1 .1 .0 .1 .1 .1 .1 .1 .1 .0 .1 .0 .1) in
-    let et = tail-part (selected (a .head .reserved)) (ts .tail-size .result) (a .progress .last) l (ts .tail-size .ensures ∙ ap tailSize (ts .before .selected .ensures)) in
     t .enum-told .given .1
-    ∙ both-passed (lentKeys (a .forth .now) (a .back .now) (a .ewords .now) (a .dwords .now) (a .cwords .now) (a .key1 .now) (a .key2 .now) (a .rounds)) (mac-sized (a .forth .now) (a .cwords .now) (a .rounds .chk) (a .key1 .now) (a .key2 .now))
-    (a .progress) (a .block .now) (a .head) (s .pre) more _ et (sym (m .check-holds .ensures) ∙ flip _ (i .if2 .left)) _ (h .before .mark-for .ensures) (sym (t .enum-told .given .1) ∙ h .judge-head .ensures) (sym (c .before .fill-is-zero .ensures) ∙ flip _ (c .if3 .left))
+    ∙ both-passed (keys s) (sized s) (a .progress) (a .block .now) (a .head) (s .pre) (more m) _ (covered m) (sym (m .check-holds .ensures) ∙ flip _ (i .if2 .left))
+    _ (h .before .mark-for .ensures) (sym (t .enum-told .given .1) ∙ h .judge-head .ensures) (sym (c .before .fill-is-zero .ensures) ∙ flip _ (c .if3 .left))
 
 pub verdict-on-spec : {M : Type 1} → statement M
 verdict-on-spec =

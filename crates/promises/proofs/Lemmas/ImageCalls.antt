@@ -9,6 +9,7 @@ use borrow.Author.Tests.{eqb-true, eqb-false, eq-eqb, ltb-true, ltb-false, lt-lt
 use lib.Dec.{eqb, ltb, leb}
 use lib.ListN.{length, take, drop, length-drop, replicate}
 use lib.Seq.{take-at, drop-at, take-all}
+use Rattle.octets.proofs.Both.{and-true}
 use Rattle.octets.specs.Octets.{Octets, choose, Bytes, over}
 use Rattle.octets.specs.Blocks.{Lawful}
 use Rattle.octets.proofs.Blocks.{take-octets, drop-bytes}
@@ -44,7 +45,7 @@ use Rattle.writer.proofs.Calls.{last-bytes, last-size, mark-small}
 use Rattle.promises.proofs.ImageTerms.{Blocks, Fit, WriteSays, inState, readingOf, given, Fair, StopSays}
 use Rattle.promises.proofs.Keys.{KeyTaken}
 use Rattle.promises.proofs.Lemmas.ImageSealed.{sealed-size}
-use Rattle.promises.proofs.Lemmas.ImageJudge.{and-true, fits-le, count-fits, fits-count}
+use Rattle.promises.proofs.Lemmas.ImageJudge.{fits-le, count-fits, fits-count}
 use Rattle.promises.proofs.Lemmas.ImageTurn.{ran-accepted, out-length, none-accepted, no-keys-none, accepted-le}
 
 -- ---- keys

@@ -31,6 +31,7 @@ use Rattle.reasons.specs.declared.Verdict.the-variants.{Accepted, Refused}
 use Rattle.layout.proofs.Laws.{Wide, head-bytes}
 use Rattle.reasons.proofs.Order.{all-false, all-accepted}
 use Rattle.octets.proofs.Same.{same-true}
+use Rattle.octets.proofs.Both.{and-true}
 use Rattle.format.specs.Sealed.{filled, front, sealed, opened, checks, zeroAfter, fillZero}
 use Rattle.format.specs.Edition.{Edition}
 use Rattle.format.specs.Judge.{Keys, tests, judge}
@@ -42,10 +43,6 @@ use Rattle.promises.proofs.Lemmas.ImageSealed.{fill-of, sealed-size, se
 either : (t : Bool) → (t ≡ true → ⊥) → t ≡ false
 either true n = absurd (n refl)
 either false n = refl
-
-pub and-true : (a b : Bool) → (a && b) ≡ true → (a ≡ true) × (b ≡ true)
-and-true true b e = (refl, e)
-and-true false b e = let z : _≡_ {A = ℕ} 0 1 = cc in absurd (omega arith)
 
 and-imp : (a b : Bool) → (a && not b) ≡ false → a ≡ true → b ≡ true
 and-imp true true e f = refl

@@ -10,6 +10,7 @@ use borrow.Author.Tests.{eqb-true, eq-eqb, ne-eqb, ltb-true}
 use lib.Dec.{eqb, ltb, leb}
 use lib.ListN.{length, take, drop, length-append, length-take, drop-of-length-le}
 use lib.Seq.{take-at, drop-at, take-all}
+use Rattle.octets.proofs.Both.{and-true}
 use Rattle.octets.specs.Octets.{Bytes, Octets}
 use Rattle.octets.specs.Words.{word}
 use Rattle.octets.specs.Blocks.{BlockCipher, Lawful}
@@ -160,16 +161,12 @@ module _ (ed : Edition) (ek ck : BlockCipher) where
     rest-of : (s : Progress) (bs : List (List ℕ)) → Passes keys (always ed) s bs → Blocks bs → 0 < s .next → Rest (s .count) (s .release) (s .last) (s .next) bs
     unfolding written done
     rest-of s [] d w f =
-        let e : s .next ≡ s .count = eqb-true (s .next) (s .count) (both (ltb 0 (s .next)) (eqb (s .next) (s .count)) d) in
+        let e : s .next ≡ s .count = eqb-true (s .next) (s .count) (and-true (ltb 0 (s .next)) (eqb (s .next) (s .count)) d .1) in
         let z : s .count - s .next ≡ 0 = omega arith in (
           ap (λ (n : ℕ). written ed ek ck (s .count) (s .release) (s .last) (s .next) n []) (sym z),
           record { most = omega arith; least = λ a b. omega arith },
           λ k. omega arith,
         )
-      where
-        both : (a b : Bool) → (a && b) ≡ true → b ≡ true
-        both true b e = e
-        both false b e = let z : _≡_ {A = ℕ} 0 1 = cc in absurd (omega arith)
     rest-of s (b ∷ bs) d w f =
         let m = accepted-met keys ed s b (d .0) in
         subst₂ (λ (N R : ℕ). Rest N R (s .last) (s .next) (b ∷ bs)) (m .head-right .same-count f) (m .head-right .same-release f)

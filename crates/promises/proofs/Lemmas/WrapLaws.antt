@@ -1,11 +1,11 @@
 -- The key wrap's registers, and that each way undoes the other, step by step, pass by pass. Assumes nothing.
 use mathlib.Core.Path.{_≡_, refl, sym, ap, ap₂, subst, _∙_}
-use mathlib.Core.Bool.{Bool, true, false, _&&_}
+use mathlib.Core.Bool.{Bool, true, false}
 use mathlib.Core.List.{List, [], _∷_, _++_, append-assoc}
 use Prim.Native.Nat.{ℕ, zero, suc, _+_, _-_, _*_, _/_, _%_, _≤_, _<_}
 use native.Mathlib.Omega.{arith}
-use borrow.Author.Tests.{eqb-true, eqb-false, eq-eqb, ltb-true, ltb-false, le-ltb, le-leb, leb-true}
-use lib.Dec.{eqb, ltb, leb}
+use borrow.Author.Tests.{eqb-true, eqb-false, eq-eqb, ltb-true, ltb-false, le-ltb}
+use lib.Dec.{eqb, ltb}
 use lib.ListN.{length, take, drop, replicate, length-append, length-drop, take-append-drop}
 use lib.Seq.{length-take-le, take-at, drop-at, take-take, drop-drop, take-append-add, drop-append-add}
 use Rattle.octets.specs.Octets.{choose, Bytes, Octets, same, over}
@@ -18,11 +18,11 @@ use Rattle.schedule.specs.Schedule.{scheduleOf, keyNumber}
 use Rattle.fips197.specs.Cipher.{aesOf}
 use Rattle.octets.proofs.Same.{same-true, same-refl}
 use Rattle.rfc3394.specs.Wrap.{initial, counter, register, replaced, msb, lsb, step, pass, passes, wrapped, unstep, unpass, unpasses, unwrapped}
+use Rattle.wrap_answers.proofs.Sizes.{size-parts, size-right, wrapped-size-parts, wrapped-size-right}
 use Rattle.wrap_answers.specs.Answers.{wrappedSizeFits, wrapNumber, sizeFits, wrapRuled}
 use Rattle.wrap.specs.Calls.{wrapAnswer, wrapOutput, opening, unwrapAnswer, unwrapOutput}
 use Rattle.wrap_answers.specs.declared.WrapAnswer.{WrapAnswer}
 use Rattle.wrap_answers.specs.declared.WrapAnswer.the-variants.{WrapDone, WrapKey, WrapSize, WrapRoom, WrongInitial}
-use Rattle.promises.proofs.Lemmas.ImageJudge.{and-true}
 use Rattle.promises.proofs.WrapTerms.{WrapFit, WrapSays, UnwrapFit, UnwrapSays}
 
 -- ---- lists of bytes
@@ -320,29 +320,11 @@ module _ (c : BlockCipher) (l : Lawful 16 c) where
 
 -- ---- sizes
 
-pub size-rule : (n : ℕ) → sizeFits n ≡ true → (16 ≤ n) × (n ≤ 64) × (n % 8 ≡ 0)
-size-rule n e =
-    let a = and-true (leb 16 n) (leb n 64 && eqb (n % 8) 0) e in
-    let b = and-true (leb n 64) (eqb (n % 8) 0) (a .1) in
-    (leb-true 16 n (a .0), leb-true n 64 (b .0), eqb-true (n % 8) 0 (b .1))
-
-pub rule-size : (n : ℕ) → 16 ≤ n → n ≤ 64 → n % 8 ≡ 0 → sizeFits n ≡ true
-rule-size n l h e = rw (le-leb 16 n l, le-leb n 64 h) (eq-eqb (n % 8) 0 e)
-
-pub wrapped-size-rule : (n : ℕ) → wrappedSizeFits n ≡ true → (24 ≤ n) × (n ≤ 72) × (n % 8 ≡ 0)
-wrapped-size-rule n e =
-    let a = and-true (leb 24 n) (leb n 72 && eqb (n % 8) 0) e in
-    let b = and-true (leb n 72) (eqb (n % 8) 0) (a .1) in
-    (leb-true 24 n (a .0), leb-true n 72 (b .0), eqb-true (n % 8) 0 (b .1))
-
-pub rule-wrapped-size : (n : ℕ) → 24 ≤ n → n ≤ 72 → n % 8 ≡ 0 → wrappedSizeFits n ≡ true
-rule-wrapped-size n l h e = rw (le-leb 24 n l, le-leb n 72 h) (eq-eqb (n % 8) 0 e)
-
 pub size-wraps : (n : ℕ) → sizeFits n ≡ true → wrappedSizeFits (n + 8) ≡ true
-size-wraps n e = let r = size-rule n e in rule-wrapped-size (n + 8) (omega (arith, r .0)) (omega (arith, r .1)) (omega (arith, r .2))
+size-wraps n e = let r = size-parts n e in wrapped-size-right (n + 8) (omega (arith, r .0)) (omega (arith, r .1)) (omega (arith, r .2))
 
 pub size-unwraps : (n : ℕ) → wrappedSizeFits n ≡ true → sizeFits (n - 8) ≡ true
-size-unwraps n e = let r = wrapped-size-rule n e in rule-size (n - 8) (omega (arith, r .0)) (omega (arith, r .1)) (omega (arith, r .0, r .2))
+size-unwraps n e = let r = wrapped-size-parts n e in size-right (n - 8) (omega (arith, r .0)) (omega (arith, r .1)) (omega (arith, r .0, r .2))
 
 -- ---- the tests of a call
 

@@ -1,13 +1,11 @@
 use mathlib.Core.Path.{_≡_, refl, sym, ap, _∙_}
 use mathlib.Core.List.{List}
-use Prim.Native.Nat.{ℕ, _+_, _≤_, _-_, _*_}
-use lib.ListN.{length, take, drop, length-drop}
-use lib.Seq.{length-take-le}
-use Rattle.octets.specs.Octets.{Bytes, entry}
-use Rattle.octets.proofs.Blocks.{take-bytes, drop-bytes}
+use Prim.Native.Nat.{ℕ, _≤_, _*_}
+use lib.ListN.{length}
+use Rattle.octets.specs.Octets.{entry}
 use Rattle.layout.specs.Layout.{headOf}
 use Rattle.progress.specs.declared.Progress.{Progress}
-use Rattle.format.specs.Judge.{either, ofBoth}
+use Rattle.format.specs.Judge.{Keys, either, ofBoth}
 use Rattle.format.specs.Lent.{lentKeys}
 use Rattle.format.proofs.Sizes.{encrypt-sized, decrypt-sized, opened-size}
 use Rattle.format.proofs.Judging.{accepted-next}
@@ -16,7 +14,7 @@ use Rattle.tally.proofs.Laws.{goes-on}
 use Rattle.turns.specs.Turn.{readBlocks, cut}
 use Rattle.tally.specs.declared.BlocksRead.{BlocksRead}
 use Rattle.tally.specs.declared.Stop.the-variants.{End}
-use Rattle.turns.proofs.Blockwise.{finish, finish-start, part-is, part-size, ahead, ahead-start, ahead-end, toGo, step-keeps, step-within, step-less, step-ahead}
+use Rattle.turns.proofs.Blockwise.{finish, finish-start, Ready, ahead, ahead-start, ahead-end, toGo, one-more}
 use borrow.Author.Needs.{needs}
 use native.Mathlib.Omega.{arith}
 use Rattle.turns.proofs.read_blocks.Statement.{statement}
@@ -45,94 +43,85 @@ loop-holds c =
       ahead-start (ofBoth k) (a .blocks .now) (a .k) (c .blocks-read .result .progress) (a .output .now) (c .blocks-read .result) (e ∙ ap (λ (x : Progress). blocksReadWith x 0 0 End) (sym (ap (λ (x : BlocksRead). x .progress) e))),
     )
 
+-- where the turn goes on with the next block
+abbrev Going : Type 0
+Going = tie.After-struct-known Inv-loop μ-loop
+
+abbrev start : Going → tie.Start Inv-loop μ-loop
+start g = g .before .before .before .before .before .before .before
+
+abbrev keys : Going → Keys
+keys g =
+    let a = start g .args in
+    lentKeys (a .forth .now) (a .back .now) (a .ewords .now) (a .dwords .now) (a .cwords .now) (a .key1 .now) (a .key2 .now) (a .rounds)
+
+ready : (g : Going) → Ready (ofBoth (keys g)) (start g .args .blocks .now) (start g .args .k) (g .before .before .before .loop .done) (g .before .before .before .loop .output)
+ready g =
+    let l = g .before .before .before .loop in
+    let s = start g in
+    let a = s .args in
+    let on = goes-on (l .done) (a .k) (sym (g .before .before .goes-on .ensures) ∙ g .before .if1 .taken) in
+    record {
+      going = on .0;
+      here = on .1;
+      most = s .pre .2;
+      within = l .inv .2;
+      there = omega (arith, s .pre .0, on .1);
+      room = omega (arith, l .inv .1, s .pre .1, on .1);
+      bytes = λ j. omega (arith, g .before .before .before .before .before .before .shared-slice-known .given j);
+      sized = λ b e. opened-size b e (keys g .enc) (encrypt-sized (entry (a .forth .now)) (a .ewords .now) (a .rounds .enc)) (decrypt-sized (entry (a .back .now)) (a .dwords .now) (a .rounds .enc));
+      small = λ b. accepted-next (keys g) (either (l .done .progress) (headOf b .reserved)) (l .done .progress) b;
+    }
+
 goes-on-requires : tie.Need-goes-on-requires Inv-loop μ-loop
 goes-on-requires c κs = search needs
 
 mul-at : tie.Need-mul-at Inv-loop μ-loop
-mul-at c = omega (arith, goes-on (c .before .before .before .loop .done) (c .before .before .before .before .before .before .before .args .k) (sym (c .before .before .goes-on .ensures) ∙ c .before .if1 .taken) .1, c .before .before .before .loop .inv .1, c .before .before .before .before .before .before .before .pre .0, c .before .before .before .before .before .before .before .pre .1, c .before .before .before .before .before .before .before .pre .2)
+mul-at c = let r = ready c in omega (arith, r .here, r .most)
 
 mul-to : tie.Need-mul-to Inv-loop μ-loop
-mul-to c = omega (arith, goes-on (c .before .before .before .before .loop .done) (c .before .before .before .before .before .before .before .before .args .k) (sym (c .before .before .before .goes-on .ensures) ∙ c .before .before .if1 .taken) .1, c .before .before .before .before .loop .inv .1, c .before .before .before .before .before .before .before .before .pre .0, c .before .before .before .before .before .before .before .before .pre .1, c .before .before .before .before .before .before .before .before .pre .2)
+mul-to c = let r = ready (c .before) in omega (arith, r .here, r .most)
 
 add-read-block : tie.Need-add-read-block Inv-loop μ-loop
-add-read-block c = omega (arith, goes-on (c .before .before .before .before .loop .done) (c .before .before .before .before .before .before .before .before .args .k) (sym (c .before .before .before .goes-on .ensures) ∙ c .before .before .if1 .taken) .1, c .before .before .before .before .loop .inv .1, c .before .before .before .before .before .before .before .before .pre .0, c .before .before .before .before .before .before .before .before .pre .1, c .before .before .before .before .before .before .before .before .pre .2)
+add-read-block c = let r = ready (c .before) in omega (arith, r .here, r .most)
 
 sub-read-block : tie.Need-sub-read-block Inv-loop μ-loop
-sub-read-block c = omega (arith, goes-on (c .before .before .before .before .loop .done) (c .before .before .before .before .before .before .before .before .args .k) (sym (c .before .before .before .goes-on .ensures) ∙ c .before .before .if1 .taken) .1, c .before .before .before .before .loop .inv .1, c .before .before .before .before .before .before .before .before .pre .0, c .before .before .before .before .before .before .before .before .pre .1, c .before .before .before .before .before .before .before .before .pre .2)
+sub-read-block c = let r = ready (c .before) in omega (arith, r .here, r .most)
 
 part-read-block-start : tie.Need-part-read-block-start Inv-loop μ-loop
-part-read-block-start c = omega (arith, goes-on (c .before .before .before .before .loop .done) (c .before .before .before .before .before .before .before .before .args .k) (sym (c .before .before .before .goes-on .ensures) ∙ c .before .before .if1 .taken) .1, c .before .before .before .before .loop .inv .1, c .before .before .before .before .before .before .before .before .pre .0, c .before .before .before .before .before .before .before .before .pre .1, c .before .before .before .before .before .before .before .before .pre .2)
+part-read-block-start c = let r = ready (c .before) in omega (arith, r .there)
 
 part-read-block-end : tie.Need-part-read-block-end Inv-loop μ-loop
-part-read-block-end c = omega (arith, goes-on (c .before .before .before .before .loop .done) (c .before .before .before .before .before .before .before .before .args .k) (sym (c .before .before .before .goes-on .ensures) ∙ c .before .before .if1 .taken) .1, c .before .before .before .before .loop .inv .1, c .before .before .before .before .before .before .before .before .pre .0, c .before .before .before .before .before .before .before .before .pre .1, c .before .before .before .before .before .before .before .before .pre .2)
+part-read-block-end c = let r = ready (c .before) in omega (arith, r .there)
 
 add-read-block-2 : tie.Need-add-read-block-2 Inv-loop μ-loop
-add-read-block-2 c = omega (arith, goes-on (c .before .before .before .before .before .loop .done) (c .before .before .before .before .before .before .before .before .before .args .k) (sym (c .before .before .before .before .goes-on .ensures) ∙ c .before .before .before .if1 .taken) .1, c .before .before .before .before .before .loop .inv .1, c .before .before .before .before .before .before .before .before .before .pre .0, c .before .before .before .before .before .before .before .before .before .pre .1, c .before .before .before .before .before .before .before .before .before .pre .2)
+add-read-block-2 c = let r = ready (c .before .before) in omega (arith, r .here, r .most)
 
 sub-read-block-2 : tie.Need-sub-read-block-2 Inv-loop μ-loop
-sub-read-block-2 c = omega (arith, goes-on (c .before .before .before .before .before .loop .done) (c .before .before .before .before .before .before .before .before .before .args .k) (sym (c .before .before .before .before .goes-on .ensures) ∙ c .before .before .before .if1 .taken) .1, c .before .before .before .before .before .loop .inv .1, c .before .before .before .before .before .before .before .before .before .pre .0, c .before .before .before .before .before .before .before .before .before .pre .1, c .before .before .before .before .before .before .before .before .before .pre .2)
+sub-read-block-2 c = let r = ready (c .before .before) in omega (arith, r .here, r .most)
 
 part-read-block-start-2 : tie.Need-part-read-block-start-2 Inv-loop μ-loop
-part-read-block-start-2 c = omega (arith, goes-on (c .before .before .before .before .before .loop .done) (c .before .before .before .before .before .before .before .before .before .args .k) (sym (c .before .before .before .before .goes-on .ensures) ∙ c .before .before .before .if1 .taken) .1, c .before .before .before .before .before .loop .inv .1, c .before .before .before .before .before .before .before .before .before .pre .0, c .before .before .before .before .before .before .before .before .before .pre .1, c .before .before .before .before .before .before .before .before .before .pre .2)
+part-read-block-start-2 c = let r = ready (c .before .before) in omega (arith, r .room)
 
 part-read-block-end-2 : tie.Need-part-read-block-end-2 Inv-loop μ-loop
-part-read-block-end-2 c = omega (arith, goes-on (c .before .before .before .before .before .loop .done) (c .before .before .before .before .before .before .before .before .before .args .k) (sym (c .before .before .before .before .goes-on .ensures) ∙ c .before .before .before .if1 .taken) .1, c .before .before .before .before .before .loop .inv .1, c .before .before .before .before .before .before .before .before .before .pre .0, c .before .before .before .before .before .before .before .before .before .pre .1, c .before .before .before .before .before .before .before .before .before .pre .2)
+part-read-block-end-2 c = let r = ready (c .before .before) in omega (arith, r .room)
 
 read-block-requires : tie.Need-read-block-requires Inv-loop μ-loop
-read-block-requires c κs =
-    let i = c .before .before .before .before in
-    let g = i .before in
-    let l = g .before .loop in
-    let s = g .before .before .before .before .before in
-    let a = s .args in
-    let t = l .done in
-    let on = goes-on t (a .k) (sym (g .goes-on .ensures) ∙ i .if1 .taken) in (
-      ap length (part-is (a .blocks .now) (t .accepted)) ∙ length-take-le 512 (drop (t .accepted * 512) (a .blocks .now)) (omega (arith, length-drop (t .accepted * 512) (a .blocks .now), s .pre .0, on .1)),
-      part-size (l .output) (t .accepted * 480) (omega (arith, l .inv .1, s .pre .1, on .1)),
-    )
+read-block-requires c κs = (c .before .read-block-arg .given .2 ∙ omega arith, c .read-block-arg2 .given .2 ∙ omega arith)
 
 loop-less : tie.Need-loop-less Inv-loop μ-loop
 loop-less c =
     let rb = c .before .before in
-    let i = rb .before .before .before .before .before in
-    let g = i .before in
-    let l = g .before .loop in
-    let s = g .before .before .before .before .before in
-    let a = s .args in
-    let k = (lentKeys (a .forth .now) (a .back .now) (a .ewords .now) (a .dwords .now) (a .cwords .now) (a .key1 .now) (a .key2 .now) (a .rounds)) in
-    let t = l .done in
-    let b = take (t .accepted * 512 + 512 - t .accepted * 512) (drop (t .accepted * 512) (a .blocks .now)) in
-    let on = goes-on t (a .k) (sym (g .goes-on .ensures) ∙ i .if1 .taken) in
-    let size : length b ≡ 512 = ap length (part-is (a .blocks .now) (t .accepted)) ∙ length-take-le 512 (drop (t .accepted * 512) (a .blocks .now)) (omega (arith, length-drop (t .accepted * 512) (a .blocks .now), s .pre .0, on .1)) in
-    let bl : Bytes (a .blocks .now) = λ j. omega (arith, g .before .before .before .before .shared-slice-known .given j) in
-    let bytes : Bytes b = take-bytes (t .accepted * 512 + 512 - t .accepted * 512) (drop (t .accepted * 512) (a .blocks .now)) (drop-bytes (t .accepted * 512) (a .blocks .now) bl) in
-    let room : t .accepted * 480 + 480 ≤ length (l .output) = omega (arith, l .inv .1, s .pre .1, on .1) in
-    let plain = opened-size b size (k .enc) (encrypt-sized (entry (a .forth .now)) (a .ewords .now) (a .rounds .enc)) (decrypt-sized (entry (a .back .now)) (a .dwords .now) (a .rounds .enc)) in
-    step-less (ofBoth k) (a .blocks .now) (a .k) t (l .output) (on .0) (on .1) (s .pre .2) (l .inv .2) b (part-is (a .blocks .now) (t .accepted)) bytes plain room _ (rb .read-block .ensures .0) _ _ _ refl (rb .read-block .ensures .1) refl
+    let r = ready (rb .before .before .before .before) in
+    one-more _ _ _ _ _ r _ (rb .before .before .read-block-arg .given .2) _ (rb .before .read-block-arg2 .given .2) _ refl _ (rb .read-block .ensures .0) _ _ _ refl (rb .read-block .ensures .1) refl .0
 
 loop-again : tie.Need-loop-again Inv-loop μ-loop
 loop-again c =
     let rb = c .before .before in
-    let i = rb .before .before .before .before .before in
-    let g = i .before in
-    let l = g .before .loop in
-    let s = g .before .before .before .before .before in
-    let a = s .args in
-    let k = (lentKeys (a .forth .now) (a .back .now) (a .ewords .now) (a .dwords .now) (a .cwords .now) (a .key1 .now) (a .key2 .now) (a .rounds)) in
-    let t = l .done in
-    let b = take (t .accepted * 512 + 512 - t .accepted * 512) (drop (t .accepted * 512) (a .blocks .now)) in
-    let on = goes-on t (a .k) (sym (g .goes-on .ensures) ∙ i .if1 .taken) in
-    let size : length b ≡ 512 = ap length (part-is (a .blocks .now) (t .accepted)) ∙ length-take-le 512 (drop (t .accepted * 512) (a .blocks .now)) (omega (arith, length-drop (t .accepted * 512) (a .blocks .now), s .pre .0, on .1)) in
-    let bl : Bytes (a .blocks .now) = λ j. omega (arith, g .before .before .before .before .shared-slice-known .given j) in
-    let bytes : Bytes b = take-bytes (t .accepted * 512 + 512 - t .accepted * 512) (drop (t .accepted * 512) (a .blocks .now)) (drop-bytes (t .accepted * 512) (a .blocks .now) bl) in
-    let room : t .accepted * 480 + 480 ≤ length (l .output) = omega (arith, l .inv .1, s .pre .1, on .1) in
-    let plain = opened-size b size (k .enc) (encrypt-sized (entry (a .forth .now)) (a .ewords .now) (a .rounds .enc)) (decrypt-sized (entry (a .back .now)) (a .dwords .now) (a .rounds .enc)) in
-    let within = step-within (ofBoth k) (a .blocks .now) (a .k) t (l .output) (on .0) (on .1) (s .pre .2) (l .inv .2) b (part-is (a .blocks .now) (t .accepted)) bytes plain room _ (rb .read-block .ensures .0) _ _ _ refl (rb .read-block .ensures .1) refl in (
-      within .0,
-      step-keeps (ofBoth k) (a .blocks .now) (a .k) t (l .output) (on .0) (on .1) (s .pre .2) (l .inv .2) b (part-is (a .blocks .now) (t .accepted)) bytes plain room _ (rb .read-block .ensures .0) _ _ _ refl (rb .read-block .ensures .1) refl ∙ l .inv .1,
-      within .1,
-      step-ahead (ofBoth k) (a .blocks .now) (a .k) t (l .output) (on .0) (on .1) (s .pre .2) (l .inv .2) b (part-is (a .blocks .now) (t .accepted)) bytes plain room _ (rb .read-block .ensures .0) _ _ _ refl (rb .read-block .ensures .1) refl (accepted-next k (either (t .progress) (headOf b .reserved)) (t .progress) b) ∙ l .inv .3,
-    )
+    let g = rb .before .before .before .before in
+    let inv = g .before .before .before .loop .inv in
+    let m = one-more _ _ _ _ _ (ready g) _ (rb .before .before .read-block-arg .given .2) _ (rb .before .read-block-arg2 .given .2) _ refl _ (rb .read-block .ensures .0) _ _ _ refl (rb .read-block .ensures .1) refl in
+    (m .1, m .2 ∙ inv .1, m .3, m .4 refl refl ∙ inv .3)
 
 same-length : tie.Need-same-length Inv-loop μ-loop
 same-length c = omega (arith, c .before .before .loop .inv .1)
