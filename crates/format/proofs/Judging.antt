@@ -90,9 +90,6 @@ cover-read c es last b h eh u = go (eqb (length b) 512) refl
 
 -- ---- the tests in their order
 
-pub refused-not : {A : Type 0} (v : Verdict) (r : Reason) → v ≡ Refused r → v ≡ Accepted → A
-refused-not v r e f = let z : Refused r ≡ Accepted = sym e ∙ f in let y : _≡_ {A = ℕ} 0 1 = cc in absurd (omega arith)
-
 module _ (k : Keys) (ed : Edition) (s : Progress) (b : List ℕ) where
   fill : List (Bool × Reason)
   fill = (not (fillZero (k .enc) b), FillNotZero) ∷ []

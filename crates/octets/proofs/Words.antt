@@ -29,10 +29,6 @@ module _ (a b c d : ℕ) (ha : a < 256) (hb : b < 256) (hc : c < 256) (hd : d < 
   unfolding word
   byte3-word = omega arith
 
-  pub word-lt : word a b c d < 4294967296
-  unfolding word
-  word-lt = omega arith
-
 -- a word is the word of its bytes
 pub word-bytes : (x : ℕ) → x < 4294967296 → word (byte 0 x) (byte 1 x) (byte 2 x) (byte 3 x) ≡ x
 unfolding word

@@ -318,13 +318,6 @@ module _ (ek ck : BlockCipher) (le : Lawful 16 ek) (lc : Lawful 16 ck) where
           absurd (n (same-block i b (sealed ek (cmac ck) tail h p) tail lb (sealed-size ek ck le lc h p lp bp tail bt) o ck lc bb (sealed-bytes ek ck le lc h p lp bp tail bt) bt e (sealed-checks ek ck le lc h p lp bp tail bt)))
       go false e = e
 
-  -- hence it is refused by every reader of the edition whose last check is the one that it was sealed on
-  pub damaged-refused : (ed : Edition) (usable : Bool) (s : Progress) (h : Head) (p : List ℕ) → Bytes (ed .tail (s .last)) → length p ≤ 480 → Bytes p
-      → (i : ℕ) (b : List ℕ) → length b ≡ 512 → Bytes b → SameOutside i b (sealed ek (cmac ck) (ed .tail (s .last)) h p) → (b ≡ sealed ek (cmac ck) (ed .tail (s .last)) h p → ⊥)
-      → judge (with usable) ed s b ≡ unchecked s
-  damaged-refused ed usable s h p bt lp bp i b lb bb o n =
-      wrong-check (with usable) ed s b (damaged-check (ed .tail (s .last)) h p bt lp bp i b lb bb o n)
-
 -- ---- what is opened
 
 module _ (ek : BlockCipher) (le : Lawful 16 ek) (b : List ℕ) (lb : length b ≡ 512) (bb : Bytes b) where

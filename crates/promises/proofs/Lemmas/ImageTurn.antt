@@ -68,12 +68,6 @@ module _ (d : BlockReader) where
   unfolding readBlocks
   ran-accepted s b bs e = rw e
 
-  -- a refused block changes nothing, and ends the run
-  pub ran-refused : (s : Progress) (b : List ℕ) (bs : List (List ℕ)) (r : Reason) → d .verdict s b ≡ Refused r
-      → readBlocks d s (b ∷ bs) ≡ record { progress = s; accepted = 0; bytes = 0; stop = At 0 r; out = [] }
-  unfolding readBlocks
-  ran-refused s b bs r e = rw e
-
   pub by-verdict : (s : Progress) (b : List ℕ) (bs : List (List ℕ)) (P : Reading → Type 0)
       → (d .verdict s b ≡ Accepted → P (onward Accepted s (headOf b .len) (d .plain b) (readBlocks d (taken s b) bs)))
       → ((r : Reason) → d .verdict s b ≡ Refused r → P (record { progress = s; accepted = 0; bytes = 0; stop = At 0 r; out = [] })) → P (readBlocks d s (b ∷ bs))

@@ -16,6 +16,10 @@ Inv-loop table words rounds n j w₀ m₀ w m = (m ≤ n) × (length w ≡ lengt
 abbrev μ-loop : tie.MeasureT-loop
 μ-loop table words rounds n j w₀ m₀ w m = n - m
 
+-- a step number is one byte
+small : (g : tie.In-loop Inv-loop μ-loop) → g .before .before .before .args .n * g .before .before .before .args .j ≤ 40
+small g = let s = g .before .before .before in product-fits (s .args .n) (s .args .j) (s .pre .1) (s .pre .2)
+
 loop-holds : tie.Need-loop-holds Inv-loop μ-loop
 loop-holds c =
     let a = c .before .args in
@@ -25,19 +29,13 @@ add-i : tie.Need-add-i Inv-loop μ-loop
 add-i c = search needs
 
 mul-step : tie.Need-mul-step Inv-loop μ-loop
-mul-step c =
-    let s = c .before .before .before in
-    omega (arith, product-fits (s .args .n) (s .args .j) (s .pre .1) (s .pre .2))
+mul-step c = omega (arith, small c)
 
 add-step : tie.Need-add-step Inv-loop μ-loop
-add-step c =
-    let s = c .before .before .before in
-    omega (arith, product-fits (s .args .n) (s .args .j) (s .pre .1) (s .pre .2))
+add-step c = omega (arith, small c)
 
 step-requires : tie.Need-step-requires Inv-loop μ-loop
-step-requires c κs =
-    let s = c .before .before .before .before in
-    (omega arith, omega arith, omega (arith, product-fits (s .args .n) (s .args .j) (s .pre .1) (s .pre .2)))
+step-requires c κs = (omega arith, omega arith, omega (arith, small (c .before)))
 
 add-m : tie.Need-add-m Inv-loop μ-loop
 add-m c = search needs

@@ -1,9 +1,11 @@
 use mathlib.Core.Path.{_≡_, refl, sym, ap, _∙_}
+use mathlib.Core.Bool.{true}
 use Prim.Native.Nat.{ℕ, _-_, _/_, _≤_}
 use lib.ListN.{length}
 use borrow.Author.Tests.{not-true, not-false}
 use Rattle.lookups.specs.Lookups.{oneTable}
 use Rattle.rfc3394.specs.Wrap.{pass, passes}
+use Rattle.wrap_answers.specs.Answers.{wrappedSizeFits}
 use Rattle.wrap_answers.proofs.Sizes.{wrapped-size-parts}
 use Rattle.registers.proofs.Sizes.{passed-right, passed-wrong}
 use Rattle.rfc3394.proofs.Passing.{passes-none, passes-more}
@@ -18,6 +20,10 @@ Inv-loop table words rounds w₀ n j₀ w j = (j ≤ 6) × (length w ≡ length 
 abbrev μ-loop : tie.MeasureT-loop
 μ-loop table words rounds w₀ n j₀ w j = 6 - j
 
+-- the length is in the rule
+fits : (i : tie.Else1 Inv-loop μ-loop) → wrappedSizeFits (length (i .before .before .before .args .w .now)) ≡ true
+fits i = sym (i .before .wrapped-size-fits .ensures) ∙ not-false _ (i .if1 .left)
+
 wrapped-size-fits-requires : tie.Need-wrapped-size-fits-requires Inv-loop μ-loop
 wrapped-size-fits-requires c κs = search needs
 
@@ -27,9 +33,7 @@ returns c =
     passed-wrong (oneTable (a .table .now) (a .words .now) (a .rounds)) (a .w .now) (sym (c .before .wrapped-size-fits .ensures) ∙ not-true _ (c .if1 .taken))
 
 sub-n : tie.Need-sub-n Inv-loop μ-loop
-sub-n c =
-    let h = wrapped-size-parts (length (c .before .before .before .args .w .now)) (sym (c .before .wrapped-size-fits .ensures) ∙ not-false _ (c .if1 .left)) in
-    omega (arith, h .0)
+sub-n c = omega (arith, wrapped-size-parts (length (c .before .before .before .args .w .now)) (fits c) .0)
 
 loop-holds : tie.Need-loop-holds Inv-loop μ-loop
 loop-holds c =
@@ -39,7 +43,7 @@ loop-holds c =
 pass-requires : tie.Need-pass-requires Inv-loop μ-loop
 pass-requires c κs =
     let i = c .before .before .before in
-    let h = wrapped-size-parts (length (i .before .before .before .args .w .now)) (sym (i .before .wrapped-size-fits .ensures) ∙ not-false _ (i .if1 .left)) in
+    let h = wrapped-size-parts (length (i .before .before .before .args .w .now)) (fits i) in
     (omega (arith, h .0, h .2), omega (arith, h .1), omega arith)
 
 add-j : tie.Need-add-j Inv-loop μ-loop
@@ -70,7 +74,7 @@ returns-2 c =
     let k = oneTable (a .table .now) (a .words .now) (a .rounds) in
     let n = length (a .w .now) / 8 - 1 in
     let e : l .j ≡ 6 = omega arith in
-    l .inv .2 ∙ ap (λ (x : ℕ). passes k n x (a .w .now)) e ∙ passed-right k (a .w .now) (sym (i .before .wrapped-size-fits .ensures) ∙ not-false _ (i .if1 .left))
+    l .inv .2 ∙ ap (λ (x : ℕ). passes k n x (a .w .now)) e ∙ passed-right k (a .w .now) (fits i)
 
 pub passes-spec : {M : Type 1} → statement M
 passes-spec =

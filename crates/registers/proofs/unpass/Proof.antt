@@ -1,5 +1,5 @@
 use mathlib.Core.Path.{_≡_, refl, sym, ap, _∙_}
-use Prim.Native.Nat.{ℕ, _-_, _≤_}
+use Prim.Native.Nat.{ℕ, _*_, _-_, _≤_}
 use lib.ListN.{length}
 use Rattle.lookups.specs.Lookups.{oneTable}
 use Rattle.rfc3394.specs.Wrap.{unpass}
@@ -16,23 +16,21 @@ Inv-loop table words rounds n j w₀ i₀ w i = (i ≤ n) × (length w ≡ lengt
 abbrev μ-loop : tie.MeasureT-loop
 μ-loop table words rounds n j w₀ i₀ w i = i
 
+-- a step number is one byte
+small : (g : tie.In-loop Inv-loop μ-loop) → g .before .before .before .args .n * g .before .before .before .args .j ≤ 40
+small g = let s = g .before .before .before in product-fits (s .args .n) (s .args .j) (s .pre .1) (s .pre .2)
+
 loop-holds : tie.Need-loop-holds Inv-loop μ-loop
 loop-holds c = (omega arith, refl, refl)
 
 mul-unstep : tie.Need-mul-unstep Inv-loop μ-loop
-mul-unstep c =
-    let s = c .before .before .before in
-    omega (arith, product-fits (s .args .n) (s .args .j) (s .pre .1) (s .pre .2))
+mul-unstep c = omega (arith, small c)
 
 add-unstep : tie.Need-add-unstep Inv-loop μ-loop
-add-unstep c =
-    let s = c .before .before .before in
-    omega (arith, product-fits (s .args .n) (s .args .j) (s .pre .1) (s .pre .2))
+add-unstep c = omega (arith, small c)
 
 unstep-requires : tie.Need-unstep-requires Inv-loop μ-loop
-unstep-requires c κs =
-    let s = c .before .before .before .before in
-    (omega arith, omega arith, omega (arith, product-fits (s .args .n) (s .args .j) (s .pre .1) (s .pre .2)))
+unstep-requires c κs = (omega arith, omega arith, omega (arith, small (c .before)))
 
 sub-i : tie.Need-sub-i Inv-loop μ-loop
 sub-i c = search needs
