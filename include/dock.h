@@ -149,6 +149,13 @@ typedef struct {
 } dock_start_answer;
 
 // The check of a message of any length, 0 too, under a key of 16, 24 or 32 bytes. Refused by 1, with zeros in check.
+//
+// Do not compare checks by memcmp: its time may tell how many bytes agree, and so a right check can be found byte by byte. Compare all
+// 16 bytes with no early end, and look at the number first, since a refused call has zeros there:
+//
+//     volatile int differing = 0;
+//     for (size_t i = 0; i < 16; i++) differing = differing | (answer.check[i] ^ expected[i]);
+//     int right = answer.number == DOCK_DONE && differing == 0;
 dock_check_answer dock_check(const uint8_t *key, size_t key_length, const uint8_t *message, size_t length);
 
 // A record to which nothing has been fed. Refused by 1, with the zero record, whose check is sixteen zeros whatever is fed.
@@ -158,7 +165,8 @@ dock_start_answer dock_check_start(const uint8_t *key, size_t key_length);
 void dock_check_feed(dock_record *record, const uint8_t *part, size_t length);
 
 // The check of all that was fed, however it was cut into parts. The number is 0: nothing is refused. The record stays as it is, so
-// that it can be fed on and closed again.
+// that it can be fed on and closed again. Do not compare by memcmp here either: dock_check says how. After a refused start the check is
+// sixteen zeros, which anyone can send: look at the number of the start.
 dock_check_answer dock_check_close(dock_record record);
 
 // ---- Release images (docs/IMAGE.md)

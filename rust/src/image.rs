@@ -2,6 +2,7 @@
 
 use crate::refusal::Refusal;
 use crate::sys;
+use crate::wipe::wipe;
 use core::fmt;
 
 /// What a block says of itself.
@@ -21,7 +22,13 @@ pub struct Numbers {
 ///
 /// The keys have 16, 24 or 32 bytes each and may be equal. The payload has 480 bytes in every block but the last; there 1 to 480,
 /// or 0 to 480 where the count is 1. In edition 2 the block is sealed on the check of the block before, which is bytes 496 to 511 of
-/// that one: `previous`. It is not looked at in edition 1, nor for number 0. Refused by the first that applies of 1, 7, 8, 12, 13, 4.
+/// that one: `previous`. It is not looked at in edition 1, nor for number 0.
+///
+/// # Errors
+///
+/// The first that applies of [`KeyLength`](Refusal::KeyLength), [`CountRange`](Refusal::CountRange),
+/// [`BlockNumber`](Refusal::BlockNumber), [`PayloadLength`](Refusal::PayloadLength), [`EditionWrong`](Refusal::EditionWrong) and
+/// [`OutputShort`](Refusal::OutputShort).
 pub fn write(
     encryption_key: &[u8],
     check_key: &[u8],
@@ -53,12 +60,15 @@ pub fn write(
 
 /// A reader of an image: how far it has come, under two keys.
 ///
-/// The default has no keys and accepts nothing: each block is refused by 14.
+/// A refused block leaves the reader as it was, so trying again needs no clone. A clone that is made before a turn is the way back
+/// where the turn's payload could not be stored. The key material is overwritten with zeros when the reader is dropped, in each clone
+/// too.
 #[derive(Clone)]
 pub struct Reader(sys::Reader);
 
 /// What a turn did that was not refused as a whole.
 #[derive(Clone, Copy, PartialEq, Eq, Debug)]
+#[must_use = "a turn may stop at a refused block, and says how much of the output is payload"]
 pub struct Turn {
     /// The blocks accepted.
     pub accepted: usize,
@@ -80,7 +90,11 @@ pub struct Stop {
 }
 
 impl Reader {
-    /// A reader that expects block 0. The keys have 16, 24 or 32 bytes each. Refused by 1.
+    /// A reader that expects block 0. The keys have 16, 24 or 32 bytes each.
+    ///
+    /// # Errors
+    ///
+    /// [`KeyLength`](Refusal::KeyLength) where either key has another length.
     pub fn start(encryption_key: &[u8], check_key: &[u8]) -> Result<Reader, Refusal> {
         // SAFETY: pointers and lengths are those of slices.
         let answer = unsafe {
@@ -96,10 +110,17 @@ impl Reader {
 
     /// Takes in lent blocks of 512 bytes, as many as asked for at most, 1 to 128, up to the first that is refused.
     ///
-    /// The output has 480 bytes for each block to be handled; the decrypted 480 bytes of block j of the turn go to 480 j. Refused as a
-    /// whole by the first that applies of 5, 6, 4; a block is refused by the first of 16, 14, 7, 8, 9, 10, 12, 13, 15. Both editions
-    /// are read, and the first block accepted fixes the edition; in edition 2 a block of another build, or one doubled, skipped or out
-    /// of order, gets 14.
+    /// The output has 480 bytes for each block to be handled; the decrypted 480 bytes of block j of the turn go to 480 j. Both
+    /// editions are read, and the first block accepted fixes the edition; in edition 2 a block of another build, or one doubled,
+    /// skipped or out of order, gets 14.
+    ///
+    /// A refused block is no error: it stands in the turn's [`stop`](Turn::stop), with the first reason that applies of 16, 14, 7, 8,
+    /// 9, 10, 12, 13, 15. A turn without a stop does not say that the release is here: only [`complete`](Reader::complete) does.
+    ///
+    /// # Errors
+    ///
+    /// The whole turn is refused by the first that applies of [`AskedNumber`](Refusal::AskedNumber),
+    /// [`LentLength`](Refusal::LentLength) and [`OutputShort`](Refusal::OutputShort).
     pub fn turn(
         &mut self,
         blocks: &[u8],
@@ -121,7 +142,11 @@ impl Reader {
         Refusal::answered(answer.number, turn_of(&answer))
     }
 
-    /// Whether the last block has been accepted, which alone says that the release is here. Refused by 17 before.
+    /// Whether the last block has been accepted, which alone says that the release is here.
+    ///
+    /// # Errors
+    ///
+    /// [`NotComplete`](Refusal::NotComplete) before.
     pub fn complete(&self) -> Result<(), Refusal> {
         // SAFETY: the reader is passed by value, and any bytes in it have an answer.
         let number = unsafe { sys::dock_read_complete(self.0) };
@@ -129,26 +154,31 @@ impl Reader {
     }
 
     /// The number of the block expected next.
+    #[must_use]
     pub fn expected(&self) -> u32 {
         self.0.progress.next
     }
 
     /// The count of blocks, once a block has been accepted.
+    #[must_use]
     pub fn count(&self) -> Option<u32> {
         Some(self.0.progress.count).filter(|_| self.expected() != 0)
     }
 
     /// The release, once a block has been accepted.
+    #[must_use]
     pub fn release(&self) -> Option<u32> {
         Some(self.0.progress.release).filter(|_| self.expected() != 0)
     }
 
     /// The edition, 1 or 2, once a block has been accepted.
+    #[must_use]
     pub fn edition(&self) -> Option<u32> {
         Some(self.0.progress.edition).filter(|_| self.expected() != 0)
     }
 
     /// The check of the block accepted last, once a block has been accepted.
+    #[must_use]
     pub fn last(&self) -> Option<[u8; 16]> {
         Some(self.0.progress.last).filter(|_| self.expected() != 0)
     }
@@ -167,9 +197,9 @@ fn turn_of(answer: &sys::TurnAnswer) -> Turn {
     }
 }
 
-impl Default for Reader {
-    fn default() -> Reader {
-        Reader(sys::Reader::ZERO)
+impl Drop for Reader {
+    fn drop(&mut self) {
+        wipe(&mut self.0, sys::Reader::ZERO);
     }
 }
 

@@ -18,11 +18,28 @@
 //! # Ok::<(), dock::Refusal>(())
 //! ```
 //!
-//! The package needs `core` alone. The archive that it links is for x86-64 Linux: `rt staticlib dock` writes it to target/staticlib,
-//! where the build script looks for it, or in the folder that DOCK_LIBS names.
+//! # The modes
 //!
-//! [`Schedule`], [`Check`] and [`Reader`] hold expanded keys, and calls leave copies of these on the stack: nothing here overwrites
-//! them. Nothing is promised of how long a call takes.
+//! ECB, CBC and CFB take whole pieces of 16 bytes, OFB any length; CFB is that with segments of 16 bytes. Each call puts its result
+//! into the front of the output, which has at least the input's length. The IV is empty in ECB and 16 bytes in the other modes.
+//!
+//! CBC, CFB and OFB answer the next chaining value: the last block of the ciphertext, in OFB the last cipher output made, and the IV
+//! where the input is empty. Given as the IV of the next call it goes on from there: parts of whole 16 bytes, and a last part of any
+//! length that the mode takes, give what one call over all of it gives.
+//!
+//! # Building
+//!
+//! The package needs `core` alone. The archive that it links is for x86-64 Linux: `rt staticlib dock` writes it to target/staticlib,
+//! where the build script looks for it, or in the folder that `DOCK_LIBS` names. For other targets the package can only be checked.
+//! [`Refusal`] implements `core::error::Error` where the compiler has it, from Rust 1.81 on.
+//!
+//! # Key material and time
+//!
+//! [`Schedule`], [`Check`] and [`Reader`] hold expanded keys, and overwrite them with zeros when they are dropped, clones too. Calls
+//! and moves leave copies on the stack besides, and nothing here overwrites those.
+//!
+//! Nothing is promised of how long a call takes: it may depend on keys and data. But the comparison in [`verify`] takes the same time
+//! wherever a wrong check differs.
 #![no_std]
 #![deny(missing_docs, unsafe_op_in_unsafe_fn)]
 
@@ -32,9 +49,10 @@ mod image;
 mod modes;
 mod refusal;
 pub mod sys;
+mod wipe;
 mod wrap;
 
-pub use check::{check, Check};
+pub use check::{check, verify, Check};
 pub use cipher::{decrypt, encrypt, product, schedule, Schedule};
 pub use image::{write, Numbers, Reader, Stop, Turn};
 pub use modes::{

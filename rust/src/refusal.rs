@@ -31,7 +31,8 @@ pub enum Refusal {
     /// 13: bytes 14 and 15 are neither 0 nor 2, or not those of the edition of the first block accepted; to the writer, an edition
     /// that is not 1 or 2.
     EditionWrong,
-    /// 14: the check is wrong; in edition 2 also: the block was sealed on another check than the one accepted last.
+    /// 14: the check is wrong, of a block or of a message that is [verified](crate::verify); of a block of edition 2 also: it was
+    /// sealed on another check than the one accepted last.
     CheckWrong,
     /// 15: after decryption the bytes behind the payload are not zero.
     FillNotZero,
@@ -81,6 +82,7 @@ const NAMED: [(u32, Refusal, &str); 18] = [
 
 impl Refusal {
     /// The number of the refusal in `docs/REFUSALS.md`.
+    #[must_use]
     pub fn number(self) -> u32 {
         match self {
             Other(number) => number,
@@ -121,3 +123,7 @@ impl fmt::Display for Refusal {
         write!(f, "refusal {}: {words}", self.number())
     }
 }
+
+/// The build script says where the compiler has it, from Rust 1.81 on.
+#[cfg(dock_core_error)]
+impl core::error::Error for Refusal {}

@@ -112,7 +112,7 @@ impl Record {
 }
 
 impl KeySchedule {
-    const ZERO: KeySchedule = KeySchedule {
+    pub const ZERO: KeySchedule = KeySchedule {
         words: [0; 60],
         rounds: 0,
     };

@@ -3,14 +3,23 @@
 use crate::refusal::Refusal;
 use crate::sys;
 
-/// Wraps key data of 16 to 64 bytes, a multiple of 8; the result, 8 bytes longer, goes into the front of the output. Refused by the
-/// first that applies of 1, 18, 4.
+/// Wraps key data of 16 to 64 bytes, a multiple of 8; the result, 8 bytes longer, goes into the front of the output.
+///
+/// # Errors
+///
+/// The first that applies of [`KeyLength`](Refusal::KeyLength), [`WrapLength`](Refusal::WrapLength) and
+/// [`OutputShort`](Refusal::OutputShort).
 pub fn wrap(key: &[u8], data: &[u8], output: &mut [u8]) -> Result<(), Refusal> {
     called(sys::dock_wrap, key, data, output)
 }
 
 /// Unwraps data of 24 to 72 bytes, a multiple of 8; the key data, 8 bytes shorter, goes into the front of the output once it is known
-/// to be a wrapping under this key. Refused by the first that applies of 1, 18, 4, 19.
+/// to be a wrapping under this key.
+///
+/// # Errors
+///
+/// The first that applies of [`KeyLength`](Refusal::KeyLength), [`WrapLength`](Refusal::WrapLength),
+/// [`OutputShort`](Refusal::OutputShort) and [`InitialValue`](Refusal::InitialValue).
 pub fn unwrap(key: &[u8], data: &[u8], output: &mut [u8]) -> Result<(), Refusal> {
     called(sys::dock_unwrap, key, data, output)
 }

@@ -1,38 +1,24 @@
 //! The console over the safe calls: answers each line of docs/CONSOLE.md, with every piece of memory that a call is lent between
 //! canaries. `console LONGEST` takes lines of that many bytes instead of 65,536. It stops where a call changes what it may not.
 
+mod held;
 mod lent;
 mod words;
 
 use dock::{Check, Reader, Refusal, Turn};
-use lent::{canary, stop, Lent, CANARY};
+use held::{Reading, Running};
+use lent::{stop, Lent};
 use std::env;
 use std::io::{self, BufRead, BufWriter, Read, Write};
 use words::{array, bytes, hex, number};
 
 const LONGEST: usize = 65_536;
 
-/// What is held from line to line. The check is fed on the spot, so it stands between canaries of its own.
+/// What is held from line to line.
 struct Console {
     longest: usize,
-    held: Held,
-    reader: Reader,
-}
-
-#[repr(C)]
-#[derive(Default)]
-struct Held {
-    before: Guard,
-    check: Check,
-    behind: Guard,
-}
-
-struct Guard([u8; CANARY]);
-
-impl Default for Guard {
-    fn default() -> Guard {
-        Guard(canary(1))
-    }
+    running: Running,
+    reading: Reading,
 }
 
 fn input(word: &[u8]) -> Option<Lent> {
@@ -77,11 +63,11 @@ impl Console {
             (b"check", [key, message]) => check(key, message),
             (b"check-start", [key]) => self.check_start(key),
             (b"check-feed", [part]) => self.check_feed(part),
-            (b"check-close", []) => Some(format!("0 {}", hex(&self.held.check.close()))),
+            (b"check-close", []) => Some(format!("0 {}", hex(&self.running.close()))),
             (b"write", words) => write(words),
             (b"read-start", [encryption, check]) => self.read_start(encryption, check),
             (b"read-turn", [asked, blocks, room]) => self.read_turn(asked, blocks, room),
-            (b"read-complete", []) => Some(number_of(&self.reader.complete()).to_string()),
+            (b"read-complete", []) => Some(self.reading.complete().to_string()),
             (b"wrap", [key, data, room]) => wrapping(dock::wrap, key, data, room),
             (b"unwrap", [key, data, room]) => wrapping(dock::unwrap, key, data, room),
             _ => None,
@@ -91,42 +77,25 @@ impl Console {
     fn check_start(&mut self, key: &[u8]) -> Option<String> {
         let started = Check::start(&input(key)?);
         let number = number_of(&started);
-        self.held.check = started.unwrap_or_default();
+        self.running = Running::of(started);
         Some(number.to_string())
     }
 
-    /// On the spot, and as the step of a fold, which must come to the same.
     fn check_feed(&mut self, part: &[u8]) -> Option<String> {
-        let part = input(part)?;
-        let fed = self.held.check.clone().fed(&part);
-        self.held.check.feed(&part);
-        if [&self.held.before, &self.held.behind]
-            .iter()
-            .any(|guard| guard.0 != canary(1))
-        {
-            stop("a byte around a record has changed");
-        }
-        if fed.close() != self.held.check.close() {
-            stop("feeding a copy and feeding on the spot differ");
-        }
+        self.running.feed(&input(part)?);
         Some("0".to_string())
     }
 
     fn read_start(&mut self, encryption_key: &[u8], check_key: &[u8]) -> Option<String> {
         let started = Reader::start(&input(encryption_key)?, &input(check_key)?);
         let number = number_of(&started);
-        self.reader = started.unwrap_or_default();
+        self.reading = Reading::of(started);
         Some(number.to_string())
     }
 
     fn read_turn(&mut self, asked: &[u8], blocks: &[u8], room: &[u8]) -> Option<String> {
         let (asked, blocks, mut room) = (number(asked)?, input(blocks)?, output(room)?);
-        let expected = self.reader.expected();
-        let turn = self.reader.turn(&blocks, asked, room.lend());
-        let accepted = turn.as_ref().map_or(0, |turn| turn.accepted);
-        if (self.reader.expected() - expected) as usize != accepted {
-            stop("the blocks accepted are the advance of the reader");
-        }
+        let turn = self.reading.turn(&blocks, asked, room.lend());
         Some(format!("{} {}", turn_words(&turn), hex(&room)))
     }
 }
@@ -159,7 +128,23 @@ fn one_block(call: OneBlock, key: &[u8], block: &[u8]) -> Option<String> {
 
 fn check(key: &[u8], message: &[u8]) -> Option<String> {
     let (key, message) = (input(key)?, input(message)?);
-    Some(block_words(dock::check(&key, &message)))
+    let made = dock::check(&key, &message);
+    verified(&made, |check| dock::verify(&key, &message, check));
+    Some(block_words(made))
+}
+
+/// A check that was made is verified, and with one bit of it changed it is not. Where none was made, none is verified.
+fn verified(made: &Result<[u8; 16], Refusal>, verify: impl Fn(&[u8; 16]) -> Result<(), Refusal>) {
+    let mut check = made.unwrap_or_default();
+    if verify(&check) != made.map(|_| ()) {
+        stop("a right check is not verified");
+    }
+    // Which bit it is changes from check to check.
+    let at = usize::from(check[0] % 128);
+    check[at / 8] ^= 1 << (at % 8);
+    if verify(&check) != made.and(Err(Refusal::CheckWrong)) {
+        stop("a wrong check is verified");
+    }
 }
 
 type Ecb = fn(&[u8], &[u8], &[u8], &mut [u8]) -> Result<(), Refusal>;
@@ -275,8 +260,8 @@ fn main() -> io::Result<()> {
     let longest = env::args().nth(1).and_then(|word| word.parse().ok());
     let mut console = Console {
         longest: longest.unwrap_or(LONGEST),
-        held: Held::default(),
-        reader: Reader::default(),
+        running: Running::of(Err(Refusal::KeyLength)),
+        reading: Reading::of(Err(Refusal::KeyLength)),
     };
     let (mut from, mut to) = (io::stdin().lock(), BufWriter::new(io::stdout().lock()));
     let mut line = Vec::new();

@@ -1,0 +1,107 @@
+//! What the package promises besides the calls of `dock.h`: checks are verified, key material is overwritten when it is dropped, no
+//! check and no reader is without a key, and a refusal is an error like others. It stops at the first that does not hold.
+
+use dock::{Check, Reader, Refusal};
+use std::mem::{size_of, MaybeUninit};
+use std::ptr;
+
+// RFC 4493, examples 1 and 2.
+const KEY: [u8; 16] = 0x2b7e_1516_28ae_d2a6_abf7_1588_09cf_4f3cu128.to_be_bytes();
+const MESSAGES: [(&[u8], u128); 2] = [
+    (&[], 0xbb1d_6929_e959_3728_7fa3_7d12_9b75_6746),
+    (
+        &0x6bc1_bee2_2e40_9f96_e93d_7e11_7393_172au128.to_be_bytes(),
+        0x070a_16b4_6b4d_4144_f79b_dd9d_d04a_287c,
+    ),
+];
+
+/// Does not compile for a type that has a default: there are two names then that the `_` below can stand for.
+trait NoDefault<Marker> {
+    fn holds() {}
+}
+
+impl<T> NoDefault<()> for T {}
+impl<T: Default> NoDefault<u8> for T {}
+
+/// A message has its own check, and none of the 128 that differ from it in one bit. Changes of several bits do not make up for each
+/// other.
+fn verified(message: &[u8], check: u128, verify: impl Fn(&[u8; 16]) -> Result<(), Refusal>) {
+    assert_eq!(verify(&check.to_be_bytes()), Ok(()), "{message:?}");
+    for bit in 0..128 {
+        for changes in [1u128 << bit, 3 << bit, 0x0101 << bit, u128::MAX << bit] {
+            let wrong = (check ^ changes).to_be_bytes();
+            assert_eq!(verify(&wrong), Err(Refusal::CheckWrong), "bit {bit}");
+        }
+    }
+}
+
+fn verify() -> Result<(), Refusal> {
+    for (message, check) in MESSAGES {
+        verified(message, check, |check| dock::verify(&KEY, message, check));
+        let running = Check::start(&KEY)?.fed(message);
+        verified(message, check, |check| running.verify(check));
+    }
+    // A key of another length is said before a wrong check.
+    for length in (0..=64).filter(|length| ![16, 24, 32].contains(length)) {
+        let answer = dock::verify(&[0; 64][..length], &[], &[0; 16]);
+        assert_eq!(answer, Err(Refusal::KeyLength), "a key of {length} bytes");
+        assert_eq!(answer.map_err(Refusal::number), Err(1));
+    }
+    Ok(())
+}
+
+/// How many bytes of a place are not zero.
+fn set_bytes<T>(place: &MaybeUninit<T>) -> usize {
+    let at = place.as_ptr().cast::<u8>();
+    // SAFETY: the byte is one of the place, in which a value was and no byte is padding.
+    let byte = |i| unsafe { ptr::read_volatile(at.add(i)) };
+    (0..size_of::<T>()).filter(|i| byte(*i) != 0).count()
+}
+
+/// A value holds key material while it is there, and its place holds no byte of it once the value is dropped.
+fn overwritten<T>(value: T, name: &str) {
+    let mut place = MaybeUninit::new(value);
+    let before = set_bytes(&place);
+    assert!(before >= 160, "{name} has only {before} bytes that are set");
+    // SAFETY: a value is there, and nobody uses it from here on.
+    unsafe { ptr::drop_in_place(place.as_mut_ptr()) };
+    assert_eq!(set_bytes(&place), 0, "bytes that {name} leaves behind");
+}
+
+fn drops() -> Result<(), Refusal> {
+    overwritten(dock::schedule(&KEY)?, "a schedule");
+    overwritten(dock::schedule(&KEY)?.clone(), "a clone of a schedule");
+    overwritten(Check::start(&KEY)?, "a check");
+    overwritten(Check::start(&KEY)?.fed(b"a part"), "a check that was fed");
+    overwritten(Check::start(&KEY)?.clone(), "a clone of a check");
+    let reader = Reader::start(&KEY, &KEY)?;
+    overwritten(reader.clone(), "a clone of a reader");
+    overwritten(reader, "a reader");
+    Ok(())
+}
+
+/// Both names of the trait, and what `?` makes of a refusal in a function that answers any error.
+#[cfg(dock_core_error)]
+fn error() {
+    fn refused() -> Result<[u8; 16], Box<dyn std::error::Error>> {
+        Ok(dock::encrypt(&[], [0; 16])?)
+    }
+    let refusal: &dyn core::error::Error = &Refusal::CheckWrong;
+    assert_eq!(refusal.to_string(), "refusal 14: the check is wrong");
+    assert!(refusal.source().is_none());
+    let found = refused().unwrap_err().downcast::<Refusal>();
+    assert_eq!(found.ok().as_deref(), Some(&Refusal::KeyLength));
+}
+
+#[cfg(not(dock_core_error))]
+fn error() {}
+
+fn main() -> Result<(), Refusal> {
+    <Check as NoDefault<_>>::holds();
+    <Reader as NoDefault<_>>::holds();
+    verify()?;
+    drops()?;
+    error();
+    println!("package: checks are verified, and key material is overwritten when it is dropped");
+    Ok(())
+}
