@@ -4,9 +4,10 @@ use progress::Progress;
 use reader::Reader;
 use schedule::KeySchedule;
 
-// The answers that wait to be written end at `end`; a call that keeps a value has its field here.
+// The answers that wait to be written end at `end`, and `cut` says that a write failed; a call that keeps a value has its field here.
 pub struct Held {
     pub end: usize,
+    pub cut: bool,
     pub record: Record,
     pub reader: Reader,
 }
@@ -16,6 +17,7 @@ impl Held {
     pub fn new() -> Held {
         Held {
             end: 0,
+            cut: false,
             record: Record {
                 words: [0u32; 60],
                 rounds: 0,
@@ -40,6 +42,11 @@ impl Held {
     // The same with the answers ending elsewhere.
     pub fn at(mut self, end: usize) -> Held {
         self.end = end;
+        self
+    }
+
+    pub fn cut_off(mut self) -> Held {
+        self.cut = true;
         self
     }
 

@@ -1,4 +1,4 @@
-// Reads lines on standard input and answers each with one line on standard output.
+// Reads lines on standard input and answers each with one line on standard output. It stops where these cannot be read or written.
 mod args;
 mod basic;
 mod calls;
@@ -8,11 +8,11 @@ mod imaged;
 mod moded;
 mod print;
 mod stopped;
+mod streams;
 mod wrapped;
 
 use held::Held;
 use libc::STDIN_FILENO;
-use libc::STDOUT_FILENO;
 ghost use Prim.Native.Nat.{_<_};
 ghost use lib.ListN.{length};
 
@@ -37,11 +37,17 @@ pub struct Fed {
     pub at: usize,
 }
 
-// Whether the input goes on, after a turn of reading.
+// What comes after a turn of reading: another; nothing, since the input ended; or nothing, since a read or a write failed, which was told.
+pub enum After {
+    Another,
+    Ended,
+    Failed,
+}
+
 pub struct Turned {
     pub held: Held,
     pub place: Place,
-    pub go_on: bool,
+    pub after: After,
 }
 
 fn empty() -> Place {
@@ -66,9 +72,15 @@ fn extend(p: Place, s: &[u8], line: &mut [u8]) -> Place {
     }
 }
 
+// After a write that failed, nothing more is written.
 fn written(held: Held, text: &[u8]) -> Held {
-    io::write_all(STDOUT_FILENO, lines::part(text, 0, held.end));
-    held.at(0)
+    if held.cut {
+        return held.at(0);
+    }
+    if streams::is_written(lines::part(text, 0, held.end)) {
+        return held.at(0);
+    }
+    held.at(0).cut_off()
 }
 
 // Past the mark up to which there is room for one more answer, those that wait are written first.
@@ -140,12 +152,11 @@ fn feed(
     h: Held,
     p: Place,
     part: &[u8],
-    go_on: bool,
     line: &mut Line,
     ins: &mut Bytes,
     outs: &mut Bytes,
     text: &mut Answers,
-) -> Turned {
+) -> Fed {
     let mut held = h;
     let mut place = p;
     let mut at: usize = 0;
@@ -155,10 +166,10 @@ fn feed(
         place = f.place;
         at = f.at;
     }
-    Turned {
+    Fed {
         held: written(held, text),
         place,
-        go_on,
+        at,
     }
 }
 
@@ -166,45 +177,94 @@ fn started(p: Place) -> bool {
     if 0 < p.len { true } else { p.over }
 }
 
-// Reads once and answers the lines that came whole. At the end of the input a line that has begun counts, as if a line feed
+fn after_feed(f: Fed, after: After) -> Turned {
+    let held = f.held;
+    let place = f.place;
+    if held.cut {
+        return Turned {
+            held,
+            place,
+            after: After::Failed,
+        };
+    }
+    Turned { held, place, after }
+}
+
+fn is_end(after: After) -> bool {
+    match after {
+        After::Ended => true,
+        After::Another | After::Failed => false,
+    }
+}
+
+// Nothing more came, since the input ended or a read failed: at the end of the input a line that has begun counts, as if a line feed
 // stood behind it.
+fn last_turn(
+    held: Held,
+    p: Place,
+    got: isize,
+    line: &mut Line,
+    ins: &mut Bytes,
+    outs: &mut Bytes,
+    text: &mut Answers,
+) -> Turned {
+    if got < 0 {
+        streams::read_failed();
+        return Turned {
+            held,
+            place: p,
+            after: After::Failed,
+        };
+    }
+    if !started(p) {
+        return Turned {
+            held,
+            place: p,
+            after: After::Ended,
+        };
+    }
+    after_feed(feed(held, p, b"\n", line, ins, outs, text), After::Ended)
+}
+
+// Reads once and answers the lines that came whole.
 fn turn(held: Held, p: Place, line: &mut Line, text: &mut Answers) -> Turned {
     let mut ins = [0u8; 32768];
     let mut outs = [0u8; 32768];
     let mut chunk = [0u8; 4096];
     let got = libc::read(STDIN_FILENO, &mut chunk);
     if got <= 0 {
-        if !started(p) {
-            return Turned {
-                held,
-                place: p,
-                go_on: false,
-            };
-        }
-        return feed(held, p, b"\n", false, line, &mut ins, &mut outs, text);
+        return last_turn(held, p, got, line, &mut ins, &mut outs, text);
     }
     let n = io::count(got, &chunk);
-    feed(held, p, &chunk[..n], true, line, &mut ins, &mut outs, text)
+    after_feed(
+        feed(held, p, &chunk[..n], line, &mut ins, &mut outs, text),
+        After::Another,
+    )
 }
 
-// Nothing says that the input ends, so the turns are counted down from a number that no run uses up.
-fn serve(line: &mut Line, text: &mut Answers) {
+// Whether the input was read to its end and every answer was written. Nothing says that the input ends, so the turns are counted
+// down from a number that no run uses up.
+fn is_served(line: &mut Line, text: &mut Answers) -> bool {
     let mut held = Held::new();
     let mut place = empty();
     let mut turns = u64::MAX;
     while turns > 0 {
         let t = turn(held, place, line, text);
-        if !t.go_on {
-            return;
-        }
+        let after = t.after;
+        let After::Another = after else {
+            return is_end(after);
+        };
         held = t.held;
         place = t.place;
         turns -= 1;
     }
+    false
 }
 
 fn main() {
     let mut line = [0u8; 65536];
     let mut text = [0u8; 132096];
-    serve(&mut line, &mut text);
+    if is_served(&mut line, &mut text) {
+        streams::report();
+    }
 }

@@ -1,20 +1,25 @@
-// Lists the blocks of an image. Standard input has two keys of 16 bytes and then the blocks; each block gets a line.
+// Lists the blocks of an image, a line each. Standard input has two keys of 16 bytes and then the blocks. `dock` starts it with the
+// names of a key file and an image instead, and then it reports on a descriptor whether the whole file was accepted.
 mod rows;
+mod source;
 
-use libc::STDIN_FILENO;
 use libc::STDOUT_FILENO;
 use reader::ReadStarted;
 use reader::Reader;
 use reader::Turn;
 use schedule::KeyAnswer;
+use source::Source;
 
 // The lines that wait to be written. A line has at most 63 bytes: three numbers of up to 20 digits, two spaces, a line feed.
 type Text = [u8; 8192];
 
-// What comes next: a block is read, the last line is put, or nothing, since a write failed.
+// What comes next: a block is read; the last line is put, since the input ended or a block was refused; what waits is written and no
+// last line, since a read failed; or nothing, since a write failed.
 pub enum Next {
     Read,
-    Close,
+    Ended,
+    Refused,
+    Cut,
     Leave,
 }
 
@@ -41,8 +46,12 @@ impl Listed {
     }
 }
 
-fn write_out(end: usize, text: &Text) -> bool {
-    io::write_all(STDOUT_FILENO, lines::part(text, 0, end))
+fn is_written(end: usize, text: &Text) -> bool {
+    if io::write_all(STDOUT_FILENO, lines::part(text, 0, end)) {
+        return true;
+    }
+    source::write_failed();
+    false
 }
 
 // A program has no exit status, so after a failed write nothing more is written: a listing without its last line is seen to be cut.
@@ -50,7 +59,7 @@ fn with_room(l: Listed, text: &Text) -> Listed {
     if l.end < 8128 {
         return l;
     }
-    if write_out(l.end, text) {
+    if is_written(l.end, text) {
         return l.at(0);
     }
     l.then(Next::Leave)
@@ -81,22 +90,27 @@ fn offer(l: Listed, lent: &[u8], text: &mut Text) -> Listed {
     Listed {
         reader,
         end,
-        next: Next::Close,
+        next: Next::Refused,
     }
 }
 
 // A pipe may give fewer bytes than asked for, so a block is read until it is full or the input ends.
-fn step(l: Listed, text: &mut Text) -> Listed {
+fn step(l: Listed, fd: i32, text: &mut Text) -> Listed {
     let mut block = [0u8; 512];
-    let n = io::read_full(STDIN_FILENO, &mut block);
+    let n = io::read_full(fd, &mut block);
+    if n < 512 {
+        if source::has_failed(fd) {
+            return l.then(Next::Cut);
+        }
+    }
     if n == 0 {
-        return l.then(Next::Close);
+        return l.then(Next::Ended);
     }
     with_room(offer(l, &block[..n], text), text)
 }
 
 // An image has at most 65,535 blocks and the reader refuses one more, so the bound cuts nothing off.
-fn list_blocks(reader: Reader, text: &mut Text) -> Listed {
+fn list_blocks(reader: Reader, fd: i32, text: &mut Text) -> Listed {
     let mut l = Listed {
         reader,
         end: rows::head(text, 0),
@@ -104,7 +118,7 @@ fn list_blocks(reader: Reader, text: &mut Text) -> Listed {
     };
     let mut left: u32 = 65536;
     while left > 0 {
-        let s = step(l, text);
+        let s = step(l, fd, text);
         l = s;
         let next = s.next;
         let Next::Read = next else {
@@ -115,22 +129,35 @@ fn list_blocks(reader: Reader, text: &mut Text) -> Listed {
     l
 }
 
-// The reader began at 0, so the number that it expects is the count of blocks accepted.
-fn close(l: Listed, text: &mut Text) {
+// Puts the last line, and answers whether it says that the image is complete and was written. The reader began at 0, so the number
+// that it expects is the count of blocks accepted.
+fn is_complete(l: Listed, text: &mut Text) -> bool {
     let reader = l.reader;
     let accepted = reader.progress.next;
     let complete = reader::read_complete(reader).number() as u64;
     let end = rows::last(complete, accepted as u64, text, l.end);
-    write_out(end, text);
+    if is_written(end, text) {
+        return complete == 0;
+    }
+    false
 }
 
-fn list(reader: Reader) {
+// Whether every block was accepted, the last one too, and all of it was said. Only then is the whole file an image.
+fn is_whole(reader: Reader, fd: i32) -> bool {
     let mut text = [0u8; 8192];
-    let l = list_blocks(reader, &mut text);
+    let l = list_blocks(reader, fd, &mut text);
     let next = l.next;
     match next {
-        Next::Leave => {}
-        Next::Read | Next::Close => close(l, &mut text),
+        Next::Ended => is_complete(l, &mut text),
+        Next::Read | Next::Refused => {
+            is_complete(l, &mut text);
+            false
+        }
+        Next::Cut => {
+            is_written(l.end, &text);
+            false
+        }
+        Next::Leave => false,
     }
 }
 
@@ -139,9 +166,9 @@ fn start(keys: &[u8]) -> ReadStarted {
     reader::read_start(lines::part(keys, 0, 16), lines::part(keys, 16, 32))
 }
 
-fn main() {
+fn list(s: Source) {
     let mut keys = [0u8; 32];
-    let n = io::read_full(STDIN_FILENO, &mut keys);
+    let n = io::read_full(s.keys, &mut keys);
     let started = start(&keys[..n]);
     let reader = started.reader;
     let answer = started.answer;
@@ -149,5 +176,18 @@ fn main() {
         io::write_all(STDOUT_FILENO, b"keys 1\n");
         return;
     };
-    list(reader);
+    if is_whole(reader, s.image) {
+        source::report(s);
+    }
+}
+
+fn main() {
+    if os::arg_count() < 3 {
+        list(source::standard());
+        return;
+    }
+    let s = source::named();
+    if s.is_open() {
+        list(s);
+    }
 }

@@ -1,5 +1,7 @@
-// What a refusal says, in the words of docs/REFUSALS.md: when it comes, and what to do next.
+// What a refusal says, in the words of docs/REFUSALS.md: when it comes, and what to do next. A copy without docs has it all here.
 use crate::tell;
+use layout::Head;
+use progress::Progress;
 
 fn when(number: u32) {
     match number {
@@ -12,7 +14,6 @@ fn when(number: u32) {
         13 => edition(),
         14 => tell::say(b"the check is wrong"),
         15 => tell::say(b"after decryption the bytes behind the payload are not zero"),
-        16 => tell::say(b"a block is offered after the last"),
         _ => tell::say(b"the last block has not been accepted"),
     }
 }
@@ -39,11 +40,8 @@ fn next(number: u32) {
         9 => mixed(b"Blocks of two images"),
         10 => mixed(b"Blocks of two releases"),
         13 => both_editions(),
-        14 => check_wrong(),
+        14 => tell::say(b"Fetch the block again, and offer the one expected"),
         15 => other_key(),
-        16 => tell::say(
-            b"The image is complete; see why more came, such as a second file joined to it",
-        ),
         _ => tell::say(b"Install nothing. Go on from the block expected"),
     }
 }
@@ -72,13 +70,8 @@ fn both_editions() {
     tell::say(b"Any other value is as 7, or of an edition that this reader does not know");
 }
 
-fn check_wrong() {
-    tell::say(b"Fetch the block again, and offer the one expected. ");
-    tell::say(b"What else it can be stands in docs/REFUSALS.md under 'What a 14 can be'");
-}
-
 fn other_key() {
-    tell::say(b"The encryption key is another than the one that sealed, most likely: look at it, ");
+    tell::say(b"Most likely the encryption key is not the one that sealed the image: check it, ");
     tell::say(b"and install nothing of this image");
 }
 
@@ -93,4 +86,89 @@ pub fn tell(block: u64, number: u32) {
     tell::say(b". ");
     next(number);
     tell::say(b".\n");
+}
+
+// The line for a complete image that is not the whole file.
+pub fn tell_more(blocks: u64, size: u64) {
+    tell::say(b"dock: a complete image of ");
+    tell::number(blocks);
+    tell::say(b" blocks, then ");
+    tell::number(behind(blocks, size));
+    tell::say(b" bytes more. This is not the file that was sealed: fetch it again, ");
+    tell::say(b"or find out what was joined to it.\n");
+}
+
+fn behind(blocks: u64, size: u64) -> u64 {
+    let used = blocks % 65536 * 512;
+    if size < used { 0 } else { size - used }
+}
+
+// The line behind a 14: what the header of the block says, and what that 14 can be (docs/REFUSALS.md, 'What a 14 can be').
+pub fn tell_check(p: Progress, head: Head) {
+    tell::say(b"dock: ");
+    if p.next == 0 {
+        tell::say(
+            b"no block was accepted: most likely another key file, or no image from its first block on; ",
+        );
+        header(head);
+    } else {
+        header(head);
+        cause(p, head);
+    }
+    tell::say(b".\n");
+}
+
+// Nothing vouches for these numbers, since the check is wrong.
+fn header(head: Head) {
+    tell::say(b"the header there, unchecked, has number ");
+    tell::number(head.number as u64);
+    tell::say(b", count ");
+    tell::number(head.count as u64);
+    tell::say(b", release ");
+    tell::number(head.release as u64);
+    tell::say(b", edition ");
+    marked(head.reserved);
+}
+
+fn marked(reserved: u16) {
+    match reserved {
+        0 => tell::say(b"1"),
+        2 => tell::say(b"2"),
+        _ => tell::say(b"unknown"),
+    }
+}
+
+// A block has a count of 1 at least, so where there is none the room was reserved and never filled.
+fn cause(p: Progress, head: Head) {
+    if head.count == 0 {
+        tell::say(
+            b". No block stands there: the transfer broke off, so go on from the block expected",
+        );
+        return;
+    }
+    tell::say(b". Where every copy gets 14, ");
+    if head.reserved != 2 {
+        tell::say(
+            b"the block was damaged before it was copied, or sealed under another check key: ",
+        );
+        tell::say(b"fetch it from where it was built");
+        return;
+    }
+    chained(p, head);
+}
+
+// In edition 2 the check covers the one before it, so 14 is not damage alone.
+fn chained(p: Progress, head: Head) {
+    if p.edition == 1 {
+        tell::say(
+            b"an image of edition 2 is joined to one of edition 1: start anew with one of them",
+        );
+        return;
+    }
+    if head.number != p.next {
+        tell::say(b"blocks are lost, doubled or out of order: fetch and offer the one expected");
+        return;
+    }
+    tell::say(b"it is of another build under the same release number, or the one before it was: ");
+    tell::say(b"get all blocks from one build and start anew");
 }

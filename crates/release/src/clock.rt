@@ -4,6 +4,7 @@ use crate::tell;
 use libc::STDERR_FILENO;
 
 pub struct Clock {
+    pub total: u64,
     pub watched: bool,
     pub shown: bool,
     pub last: usize,
@@ -14,8 +15,10 @@ fn now() -> usize {
     input::natural(libc::time(&mut t))
 }
 
-pub fn start() -> Clock {
+// `total` is the number of blocks that there are to do.
+pub fn start(total: u64) -> Clock {
     Clock {
+        total,
         watched: libc::isatty(STDERR_FILENO) == 1,
         shown: false,
         last: now(),
@@ -43,8 +46,11 @@ pub fn tick(c: Clock, blocks: u64) -> Clock {
     }
     tell::say(b"\r");
     tell::number(blocks);
+    tell::say(b" of ");
+    tell::number(c.total);
     tell::say(b" blocks");
     Clock {
+        total: c.total,
         watched: true,
         shown: true,
         last: t,

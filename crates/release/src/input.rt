@@ -14,16 +14,36 @@ pub struct Got {
     pub failed: bool,
 }
 
-// Opens the file that argument i names, or tells why not and answers a number below 0.
+// Opens the file that argument i names, or tells why not and answers a number below 0. No name is written to the terminal: it may
+// hold bytes that the terminal obeys.
 pub fn open(i: usize) -> i32 {
     let mut path = io::buffer();
     let n = os::arg(i, &mut path);
     let fd = os::open_read(&path[..n]);
     if fd < 0 {
-        tell::say(b"dock: a file cannot be read, see to its name and its rights: ");
-        os::fail(&path[..n]);
+        cannot_open(i);
     }
     fd
+}
+
+fn cannot_open(i: usize) {
+    if i == KEYS {
+        tell::failed(b"the key file cannot be opened, check its permissions");
+    } else {
+        tell::failed(b"the input cannot be opened, check its permissions");
+    }
+}
+
+// The size of an open file, or more than an image holds where it has none. Reading then starts at its first byte.
+pub fn size_of(fd: i32) -> usize {
+    let end = libc::lseek(fd, 0, libc::SEEK_END);
+    if libc::lseek(fd, 0, libc::SEEK_SET) != 0 {
+        return usize::MAX;
+    }
+    if end < 0 {
+        return usize::MAX;
+    }
+    natural(end)
 }
 
 // Reads `want` bytes, or as many as `buf` holds, or until the input ends, or a read fails.
@@ -33,7 +53,7 @@ pub fn fill(fd: i32, buf: &mut [u8], want: usize) -> Got {
     while at < end {
         let g = more(fd, buf, at, end);
         if g.failed {
-            tell::failed(b"a read failed, see to the disk and start again");
+            tell::failed(b"a read failed, check the disk and start again");
             return Got {
                 n: at,
                 failed: true,
@@ -103,17 +123,15 @@ fn is_two_keys(n: usize) -> bool {
 }
 
 fn wrong_size(n: usize) {
-    tell::say(b"dock: the key file ");
-    tell::name(KEYS);
+    tell::say(b"dock: the key file has ");
     if n == 65 {
-        tell::say(b" has more than 64 bytes");
+        tell::say(b"more than 64 bytes");
     } else {
-        tell::say(b" has ");
         tell::number(n as u64);
         tell::say(b" bytes");
     }
     tell::say(
-        b": take the one that has the encryption key and then the check key, 32, 48 or 64 bytes in all\n",
+        b": take one that holds the encryption key and then the check key, both of one size, 32, 48 or 64 bytes in all\n",
     );
 }
 

@@ -1,5 +1,5 @@
-// Seals a file into a release image, opens an image, or checks one. `dock` starts it: with the words VERB KEYS INPUT and, where there
-// is an output, a temporary file beside it, its name and its folder; RELEASE and EDITION come last.
+// Seals a file into a release image, opens an image, or checks one. `dock` starts it with the words VERB KEYS INPUT and, where there is
+// an output, the temporary file that it is written to; RELEASE and EDITION come last. The last line that it writes is its answer.
 mod card;
 mod clock;
 mod input;

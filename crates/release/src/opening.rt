@@ -4,6 +4,7 @@ use crate::clock;
 use crate::input;
 use crate::keep;
 use crate::line;
+use layout::Head;
 use line::Told;
 use reader::ReadStarted;
 use reader::Reader;
@@ -19,19 +20,22 @@ pub enum After {
     Failed,
 }
 
-// How far the reading has come, with the bytes of payload so far.
+// How far the reading has come, with the bytes of payload so far, and the header of the block that the last turn stopped at.
 pub struct Reading {
     pub reader: Reader,
     pub bytes: u64,
+    pub head: Head,
     pub after: After,
 }
 
 impl Reading {
     fn then(self, after: After) -> Reading {
         let reader = self.reader;
+        let head = self.head;
         Reading {
             reader,
             bytes: self.bytes,
+            head,
             after,
         }
     }
@@ -54,6 +58,15 @@ fn sum(a: u64, b: usize) -> u64 {
     std::num::wrapping_add_u64(a, b as u64)
 }
 
+// Where a block of a turn begins.
+fn place_of(block: usize) -> usize {
+    if block < 128 { block * 512 } else { 0 }
+}
+
+fn head_at(lent: &[u8], block: usize) -> Head {
+    layout::head_of(blocks::load(lent, place_of(block)))
+}
+
 // Whole blocks are offered. Only the last block of an image may be short, so the payload of a turn has no gap.
 fn offer(r: Reading, lent: &[u8], to: i32, payload: &mut Payload) -> Reading {
     let before = r.reader;
@@ -62,26 +75,19 @@ fn offer(r: Reading, lent: &[u8], to: i32, payload: &mut Payload) -> Reading {
     let reader = t.reader;
     let stop = t.stop;
     let answer = stop.number();
-    let bytes = sum(r.bytes, n);
+    let u = Reading {
+        reader,
+        bytes: sum(r.bytes, n),
+        head: head_at(lent, t.accepted),
+        after: After::Another,
+    };
     if !is_put(to, lines::part(payload, 0, n)) {
-        return Reading {
-            reader,
-            bytes,
-            after: After::Failed,
-        };
+        return u.then(After::Failed);
     }
     if answer == 0 {
-        return Reading {
-            reader,
-            bytes,
-            after: After::Another,
-        };
+        return u;
     }
-    Reading {
-        reader,
-        bytes,
-        after: After::Stopped(answer),
-    }
+    u.then(After::Stopped(answer))
 }
 
 // Bytes behind the last whole block are refused by 6, but after the blocks before them have been taken.
@@ -117,10 +123,11 @@ fn read_blocks(
     lent: &mut Blocks,
     payload: &mut Payload,
 ) -> Reading {
-    let mut c = clock::start();
+    let mut c = clock::start((input::size_of(from) / 512) as u64);
     let mut r = Reading {
         reader,
         bytes: 0,
+        head: layout::head_of([0u8; 16]),
         after: After::Another,
     };
     let mut left: u32 = 65536;
@@ -149,36 +156,48 @@ fn told(reader: Reader, bytes: u64) -> Told {
     line::standing(reader.progress, bytes)
 }
 
+fn is_complete(reader: Reader) -> bool {
+    reader::read_complete(reader).number() == 0
+}
+
 // The whole input was accepted: 17 where it ends before the last block.
-fn ended(reader: Reader, bytes: u64, to: i32) {
-    let answer = reader::read_complete(reader).number();
-    if answer != 0 {
-        refused(reader, bytes, answer);
+fn ended(r: Reading, to: i32) {
+    let reader = r.reader;
+    if !is_complete(reader) {
+        card::tell(accepted(reader), 17);
+        line::not_complete(told(reader, r.bytes));
         return;
     }
     if to >= 0 {
-        if !keep::kept(to) {
+        if !keep::is_kept(to) {
             return;
         }
     }
-    line::complete(told(reader, bytes));
+    line::complete(told(reader, r.bytes));
 }
 
-fn refused(reader: Reader, bytes: u64, answer: u32) {
-    card::tell(accepted(reader), answer);
-    line::not_complete(told(reader, bytes));
-}
-
-fn report(r: Reading, to: i32) {
+// Behind a complete image the refusal, 16 or 6, says less than how much there is.
+fn refused(r: Reading, from: i32, answer: u32) {
     let reader = r.reader;
-    let bytes = r.bytes;
+    if is_complete(reader) {
+        card::tell_more(accepted(reader), input::size_of(from) as u64);
+    } else {
+        card::tell(accepted(reader), answer);
+        if answer == 14 {
+            card::tell_check(reader.progress, r.head);
+        }
+    }
+    line::not_complete(told(reader, r.bytes));
+}
+
+fn report(r: Reading, from: i32, to: i32) {
     let after = r.after;
     match after {
         After::Stopped(answer) => {
             if answer == 0 {
-                ended(reader, bytes, to);
+                ended(r, to);
             } else {
-                refused(reader, bytes, answer);
+                refused(r, from, answer);
             }
         }
         After::Another | After::Failed => {}
@@ -202,7 +221,7 @@ fn read_to(to: i32) {
     if from < 0 {
         return;
     }
-    report(read_image(reader, from, to), to);
+    report(read_image(reader, from, to), from, to);
 }
 
 pub fn check_image() {

@@ -14,9 +14,9 @@ type Blocks = [u8; 65536];
 
 type Payload = [u8; 61440];
 
-const RELEASE: usize = 7;
+const RELEASE: usize = 5;
 
-const EDITION: usize = 8;
+const EDITION: usize = 6;
 
 // The image that is asked for: its blocks, release and edition, the bytes of the file, and where they come from and go.
 pub struct Job {
@@ -204,7 +204,7 @@ fn has_grown(from: i32) -> bool {
 
 // An image has at most 512 turns of 128 blocks.
 fn seal_turns(keys: &[u8], job: Job, payload: &mut Payload, blocks: &mut Blocks) -> bool {
-    let mut c = clock::start();
+    let mut c = clock::start(job.count as u64);
     let mut s = Sealed {
         next: 0,
         last: [0u8; 16],
@@ -236,23 +236,9 @@ fn is_sealed(keys: &[u8], job: Job) -> bool {
     !has_grown(job.from)
 }
 
-// The size of an open file, or more than an image holds where it has none.
-fn size_of(fd: i32) -> usize {
-    let end = libc::lseek(fd, 0, libc::SEEK_END);
-    if libc::lseek(fd, 0, libc::SEEK_SET) != 0 {
-        return usize::MAX;
-    }
-    if end < 0 {
-        return usize::MAX;
-    }
-    input::natural(end)
-}
-
 fn too_long() {
-    tell::say(b"dock: the file ");
-    tell::name(input::INPUT);
-    tell::say(
-        b" is too long: an image holds 31,456,800 bytes at most, so cut the release into two or make it smaller\n",
+    tell::plain(
+        b"the file is too long: an image holds 31,456,800 bytes at most, so make the release smaller or cut it into two",
     );
 }
 
@@ -267,7 +253,7 @@ fn seal_job(keys: &[u8], job: Job) {
     if !is_sealed(keys, job) {
         return;
     }
-    if !keep::kept(job.to) {
+    if !keep::is_kept(job.to) {
         return;
     }
     line::complete(Told {
@@ -283,7 +269,7 @@ fn seal_from(keys: &[u8], release: u32, edition: u32) {
     if from < 0 {
         return;
     }
-    let size = size_of(from);
+    let size = input::size_of(from);
     let counted = cut::block_count(size);
     let Counted::Blocks(count) = counted else {
         too_long();

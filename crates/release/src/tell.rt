@@ -22,10 +22,3 @@ pub fn number(n: u64) {
     let k = io::decimal(n, &mut digits);
     say(&digits[..k]);
 }
-
-// The name that is argument i.
-pub fn name(i: usize) {
-    let mut path = io::buffer();
-    let n = os::arg(i, &mut path);
-    say(&path[..n]);
-}

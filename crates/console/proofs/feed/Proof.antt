@@ -6,10 +6,10 @@ use Rattle.console.proofs.feed.Statement.{statement}
 use Rattle.console.proofs.feed.Tie as tie
 
 abbrev Inv-loop : tie.InvT-loop
-Inv-loop part go_on line₀ ins₀ outs₀ text₀ held₀ place₀ at₀ line ins outs text held place at = Unit {0}
+Inv-loop part line₀ ins₀ outs₀ text₀ held₀ place₀ at₀ line ins outs text held place at = Unit {0}
 
 abbrev μ-loop : tie.MeasureT-loop
-μ-loop part go_on line₀ ins₀ outs₀ text₀ held₀ place₀ at₀ line ins outs text held place at = length part - at
+μ-loop part line₀ ins₀ outs₀ text₀ held₀ place₀ at₀ line ins outs text held place at = length part - at
 
 loop-holds : tie.Need-loop-holds Inv-loop μ-loop
 loop-holds c = search needs

@@ -4,10 +4,10 @@ use Rattle.listing.proofs.list_blocks.Statement.{statement}
 use Rattle.listing.proofs.list_blocks.Tie as tie
 
 abbrev Inv-loop : tie.InvT-loop
-Inv-loop text₀ l₀ left₀ text l left = Unit {0}
+Inv-loop fd text₀ l₀ left₀ text l left = Unit {0}
 
 abbrev μ-loop : tie.MeasureT-loop
-μ-loop text₀ l₀ left₀ text l left = left
+μ-loop fd text₀ l₀ left₀ text l left = left
 
 head-requires : tie.Need-head-requires Inv-loop μ-loop
 head-requires c κs = search needs

@@ -9,8 +9,14 @@ Inv-loop from to lent₀ payload₀ c₀ r₀ left₀ lent payload c r left = Un
 abbrev μ-loop : tie.MeasureT-loop
 μ-loop from to lent₀ payload₀ c₀ r₀ left₀ lent payload c r left = left
 
+size-of-requires : tie.Need-size-of-requires Inv-loop μ-loop
+size-of-requires c κs = search needs
+
 start-requires : tie.Need-start-requires Inv-loop μ-loop
 start-requires c κs = search needs
+
+head-of-requires : tie.Need-head-of-requires Inv-loop μ-loop
+head-of-requires c κs = search needs
 
 loop-holds : tie.Need-loop-holds Inv-loop μ-loop
 loop-holds c = search needs
@@ -51,7 +57,9 @@ read-blocks-spec =
     (tie.spec
     Inv-loop
     μ-loop
+    size-of-requires
     start-requires
+    head-of-requires
     loop-holds
     step-requires
     enum-told

@@ -10,6 +10,9 @@ Inv-loop keys job payload₀ blocks₀ c₀ s₀ i₀ payload blocks c s i = i �
 abbrev μ-loop : tie.MeasureT-loop
 μ-loop keys job payload₀ blocks₀ c₀ s₀ i₀ payload blocks c s i = 512 - i
 
+cast-start : tie.Need-cast-start Inv-loop μ-loop
+cast-start c = search needs
+
 start-requires : tie.Need-start-requires Inv-loop μ-loop
 start-requires c κs = search needs
 
@@ -58,6 +61,7 @@ seal-turns-spec =
     (tie.spec
     Inv-loop
     μ-loop
+    cast-start
     start-requires
     loop-holds
     stop-requires

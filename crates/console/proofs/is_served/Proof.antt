@@ -1,7 +1,7 @@
 -- The turns are counted down. Assumes nothing.
 use borrow.Author.Needs.{needs}
-use Rattle.console.proofs.serve.Statement.{statement}
-use Rattle.console.proofs.serve.Tie as tie
+use Rattle.console.proofs.is_served.Statement.{statement}
+use Rattle.console.proofs.is_served.Tie as tie
 
 abbrev Inv-loop : tie.InvT-loop
 Inv-loop line₀ text₀ held₀ place₀ turns₀ line text held place turns = Unit {0}
@@ -21,6 +21,12 @@ loop-holds c = search needs
 turn-requires : tie.Need-turn-requires Inv-loop μ-loop
 turn-requires c κs = search needs
 
+enum-told : tie.Need-enum-told Inv-loop μ-loop
+enum-told c = search needs
+
+is-end-requires : tie.Need-is-end-requires Inv-loop μ-loop
+is-end-requires c κs = search needs
+
 returns : tie.Need-returns Inv-loop μ-loop
 returns c = search needs
 
@@ -36,8 +42,8 @@ loop-again c = search needs
 returns-2 : tie.Need-returns-2 Inv-loop μ-loop
 returns-2 c = search needs
 
-pub serve-spec : {M : Type 1} → statement M
-serve-spec =
+pub is-served-spec : {M : Type 1} → statement M
+is-served-spec =
     tie.close
     (tie.spec
     Inv-loop
@@ -46,6 +52,8 @@ serve-spec =
     empty-requires
     loop-holds
     turn-requires
+    enum-told
+    is-end-requires
     returns
     sub-turns
     loop-less
