@@ -39,24 +39,25 @@ extern "C" {
 enum {
     DOCK_DONE = 0,
     DOCK_KEY_LENGTH = 1,          // a key is not 16, 24 or 32 bytes
-    DOCK_IV_LENGTH = 2,           // the IV is not empty in ECB, or not 16 bytes in another mode
-    DOCK_INPUT_LENGTH = 3,        // the input of ECB, CBC or CFB is not a multiple of 16 bytes
+    DOCK_IV_LENGTH = 2,           // the IV has a wrong length for the mode: it is empty in ECB, and 16 bytes in another
+    DOCK_INPUT_LENGTH = 3,        // the input is not a multiple of 16 bytes, in ECB, CBC or CFB
     DOCK_OUTPUT_SHORT = 4,        // the output is too short for the result
     DOCK_ASKED_NUMBER = 5,        // the number of blocks asked for is not 1 to 128
-    DOCK_LENT_LENGTH = 6,         // the bytes lent are not whole blocks of 512
+    DOCK_LENT_LENGTH = 6,         // the bytes are not whole blocks of 512
     DOCK_COUNT_RANGE = 7,         // the count is not 1 to 65,535; the value is the count
-    DOCK_BLOCK_NUMBER = 8,        // turn: not the block expected, and the value is its number; writer: not below the count
+    DOCK_BLOCK_NUMBER = 8,        // the number of the block is wrong: not the one expected, and the value is that number; in the writer,
+                                  // not below the count
     DOCK_COUNT_DIFFERS = 9,       // the count is not that of the first block accepted; the value is the count
     DOCK_RELEASE_DIFFERS = 10,    // the release is not that of the first block accepted; the value is the release
     DOCK_PAYLOAD_LENGTH = 12,     // the payload length is wrong for its place; the value is the length
-    DOCK_EDITION_WRONG = 13,      // turn: bytes 14 and 15 are neither 0 nor 2, or not those of the edition of the first block accepted,
-                                  // and the value is their number, 0 too; writer: the edition is not 1 or 2
-    DOCK_CHECK_WRONG = 14,        // the check is wrong; in edition 2 also: sealed on another check than the one accepted last
-    DOCK_FILL_NOT_ZERO = 15,      // after decryption the bytes behind the payload are not zero
-    DOCK_AFTER_LAST = 16,         // a block is offered after the last
+    DOCK_EDITION_WRONG = 13,      // the edition is wrong: bytes 14 and 15 are neither 0 nor 2, or not those of the edition of the first
+                                  // block accepted, and the value is their number, 0 too; in the writer, it is not 1 or 2
+    DOCK_CHECK_WRONG = 14,        // the check is wrong; in edition 2 also: it was made on another check than the one accepted last
+    DOCK_FILL_NOT_ZERO = 15,      // the fill is not zero: the bytes behind the payload, after decryption
+    DOCK_AFTER_LAST = 16,         // the block comes after the last
     DOCK_NOT_COMPLETE = 17,       // the last block has not been accepted
-    DOCK_WRAP_LENGTH = 18,        // wrong length: 16 to 64 bytes are wrapped, 24 to 72 unwrapped, each a multiple of 8
-    DOCK_INITIAL_VALUE = 19       // the data is no wrapping under this key
+    DOCK_WRAP_LENGTH = 18,        // the data has a wrong length: 16 to 64 bytes are wrapped, 24 to 72 unwrapped, each a multiple of 8
+    DOCK_INITIAL_VALUE = 19       // the data was not wrapped under this key
 };
 
 // Sizes of release images, in bytes, and the most blocks that a turn may be asked for and an image may have.

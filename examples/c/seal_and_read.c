@@ -55,23 +55,23 @@ static const char *in_words(uint32_t number) {
     switch (number) {
     case DOCK_DONE: return "done";
     case DOCK_KEY_LENGTH: return "a key is not 16, 24 or 32 bytes";
-    case DOCK_IV_LENGTH: return "the IV has a wrong length";
-    case DOCK_INPUT_LENGTH: return "the input is not whole pieces of 16 bytes";
+    case DOCK_IV_LENGTH: return "the IV has a wrong length for the mode";
+    case DOCK_INPUT_LENGTH: return "the input is not a multiple of 16 bytes";
     case DOCK_OUTPUT_SHORT: return "the output is too short";
     case DOCK_ASKED_NUMBER: return "the number of blocks asked for is not 1 to 128";
-    case DOCK_LENT_LENGTH: return "the bytes are not whole blocks of 512: the file ends inside a block";
-    case DOCK_COUNT_RANGE: return "the count of blocks is not 1 to 65,535";
-    case DOCK_BLOCK_NUMBER: return "it is not the block expected";
-    case DOCK_COUNT_DIFFERS: return "its count is not that of the first block";
-    case DOCK_RELEASE_DIFFERS: return "its release is not that of the first block";
-    case DOCK_PAYLOAD_LENGTH: return "its payload length is wrong for its place";
-    case DOCK_EDITION_WRONG: return "its edition is not that of the first block, or is none";
-    case DOCK_CHECK_WRONG: return "its check is wrong: it is damaged, of another build or out of its turn, or the check key is another";
-    case DOCK_FILL_NOT_ZERO: return "its fill is not zero: most likely the encryption key is not the one that sealed it";
-    case DOCK_AFTER_LAST: return "it comes after the last block";
-    case DOCK_NOT_COMPLETE: return "the last block is missing";
-    case DOCK_WRAP_LENGTH: return "the key data or the wrapped data has a wrong length";
-    case DOCK_INITIAL_VALUE: return "the data is no wrapping under this key";
+    case DOCK_LENT_LENGTH: return "the bytes are not whole blocks of 512";
+    case DOCK_COUNT_RANGE: return "the count is not 1 to 65,535";
+    case DOCK_BLOCK_NUMBER: return "the number of the block is wrong";
+    case DOCK_COUNT_DIFFERS: return "the count is not that of the first block";
+    case DOCK_RELEASE_DIFFERS: return "the release is not that of the first block";
+    case DOCK_PAYLOAD_LENGTH: return "the payload length is wrong for its place";
+    case DOCK_EDITION_WRONG: return "the edition is wrong";
+    case DOCK_CHECK_WRONG: return "the check is wrong";
+    case DOCK_FILL_NOT_ZERO: return "the fill is not zero";
+    case DOCK_AFTER_LAST: return "the block comes after the last";
+    case DOCK_NOT_COMPLETE: return "the last block has not been accepted";
+    case DOCK_WRAP_LENGTH: return "the data has a wrong length";
+    case DOCK_INITIAL_VALUE: return "the data was not wrapped under this key";
     default: return "a number that this program does not know";
     }
 }

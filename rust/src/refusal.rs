@@ -56,8 +56,12 @@ const NAMED: [(u32, Refusal, &str); 18] = [
     (2, IvLength, "the IV has a wrong length for the mode"),
     (3, InputLength, "the input is not a multiple of 16 bytes"),
     (4, OutputShort, "the output is too short"),
-    (5, AskedNumber, "the number asked for is not 1 to 128"),
-    (6, LentLength, "the bytes lent are not whole blocks of 512"),
+    (
+        5,
+        AskedNumber,
+        "the number of blocks asked for is not 1 to 128",
+    ),
+    (6, LentLength, "the bytes are not whole blocks of 512"),
     (7, CountRange, "the count is not 1 to 65,535"),
     (8, BlockNumber, "the number of the block is wrong"),
     (9, CountDiffers, "the count is not that of the first block"),
@@ -77,7 +81,7 @@ const NAMED: [(u32, Refusal, &str); 18] = [
     (16, AfterLast, "the block comes after the last"),
     (17, NotComplete, "the last block has not been accepted"),
     (18, WrapLength, "the data has a wrong length"),
-    (19, InitialValue, "the data is no wrapping under this key"),
+    (19, InitialValue, "the data was not wrapped under this key"),
 ];
 
 impl Refusal {
