@@ -1,4 +1,4 @@
-// The check of a block of an image, with the table, schedule and subkeys lent that it is made under: made, and asked of a block.
+// The check of a block of an image, with the schedule and the subkeys lent that it is made under: made, and asked of a block.
 // What is no block of 512 bytes has no right check.
 use blocks::load;
 use comparing::equal;
@@ -13,7 +13,6 @@ ghost use Rattle.format.specs.Lent.{usable, lentMac};
 
 // The check of the first bytes of a block and a tail behind them, which are not copied together.
 pub fn check_of(
-    forth: &[u32; 256],
     cwords: &[u32; 60],
     key1: &[u8; 16],
     key2: &[u8; 16],
@@ -21,17 +20,16 @@ pub fn check_of(
     front: &[u8],
     tail: &[u8],
 ) -> [u8; 16]
-    ensures { λ r. ⌜ r ≡ lentMac (now (forth .entry)) (now (cwords .entry)) rounds (now (key1 .entry)) (now (key2 .entry)) (now (front .entry) ++ now (tail .entry)) ⌝ }
+    ensures { λ r. ⌜ r ≡ lentMac (now (cwords .entry)) rounds (now (key1 .entry)) (now (key2 .entry)) (now (front .entry) ++ now (tail .entry)) ⌝ }
 {
     Run::new()
-        .fed(forth, cwords, rounds, front)
-        .fed(forth, cwords, rounds, tail)
-        .closed(forth, cwords, rounds, key1, key2)
+        .fed(cwords, rounds, front)
+        .fed(cwords, rounds, tail)
+        .closed(cwords, rounds, key1, key2)
 }
 
 // Whether a block carries its check, all 16 bytes, which covers a tail besides. Under a schedule that no key gave, no check is right.
 pub fn check_holds(
-    forth: &[u32; 256],
     cwords: &[u32; 60],
     key1: &[u8; 16],
     key2: &[u8; 16],
@@ -39,7 +37,7 @@ pub fn check_holds(
     tail: &[u8],
     block: &[u8],
 ) -> bool
-    ensures { λ r. ⌜ r ≡ usable rounds && checks (lentMac (now (forth .entry)) (now (cwords .entry)) (rounds .chk) (now (key1 .entry)) (now (key2 .entry))) (now (tail .entry)) (now (block .entry)) ⌝ }
+    ensures { λ r. ⌜ r ≡ usable rounds && checks (lentMac (now (cwords .entry)) (rounds .chk) (now (key1 .entry)) (now (key2 .entry))) (now (tail .entry)) (now (block .entry)) ⌝ }
 {
     if block.len() != 512 {
         return false;
@@ -50,6 +48,6 @@ pub fn check_holds(
     if !is_round_count(rounds.chk) {
         return false;
     }
-    let made = check_of(forth, cwords, key1, key2, rounds.chk, &block[0..496], tail);
+    let made = check_of(cwords, key1, key2, rounds.chk, &block[0..496], tail);
     equal(made, load(block, 496))
 }

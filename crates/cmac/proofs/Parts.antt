@@ -8,7 +8,8 @@ use Rattle.octets.specs.Octets.{joined}
 use Rattle.sbox.specs.Sbox.{sBox}
 use Rattle.schedule.specs.Schedule.{scheduleOf, roundCount}
 use Rattle.fips197.specs.Cipher.{encryptBlock, standard}
-use Rattle.lookups.specs.Lookups.{tableEncrypt, oneTable}
+use Rattle.fips197.specs.Cipher.{encryptBlock, standard}
+use Rattle.sbox.specs.Sbox.{sBox}
 use Rattle.sp800_38b.specs.Cmac.{ended, cmac}
 use Rattle.running.specs.Running.{runFrom, closed}
 use Rattle.cmac.specs.Calls.{checkOf, recordOf, startOf, fedWith, closeOf, fedParts}
@@ -38,10 +39,6 @@ module _ (w : List ℕ) (nr : ℕ) where
 pub cmac-zeros : (w : List ℕ) (nr : ℕ) (m : List ℕ) → roundCount nr ≡ false → cmac (standard w nr) m ≡ replicate 16 0
 unfolding cmac ended encryptBlock
 cmac-zeros w nr m e = rw e
-
-pub lent-zeros : (table w : List ℕ) (nr : ℕ) (m : List ℕ) → roundCount nr ≡ false → cmac (oneTable table w nr) m ≡ replicate 16 0
-unfolding cmac ended tableEncrypt
-lent-zeros table w nr m e = rw e
 
 pub close-zeros : (r : Record) → roundCount (r .rounds) ≡ false → closeOf r ≡ replicate 16 0
 unfolding closeOf closed ended encryptBlock

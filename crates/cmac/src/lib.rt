@@ -2,9 +2,8 @@
 use running::Run;
 use schedule::KeyAnswer;
 use schedule::KeySchedule;
-use tables::forward_table;
 ghost use mathlib.Core.Path.{_≡_};
-ghost use Rattle.lookups.specs.Lookups.{oneTable};
+ghost use Rattle.fips197.specs.Cipher.{standard};
 ghost use Rattle.sp800_38b.specs.Cmac as spec;
 ghost use Rattle.running.specs.Running as running;
 ghost use Rattle.cmac.specs.Calls as calls;
@@ -38,8 +37,7 @@ pub fn check(key: &[u8], message: &[u8]) -> Checked
     let answer = made.answer;
     let schedule = made.schedule;
     let words = schedule.words;
-    let table = forward_table();
-    let mac = check_with(&table, &words, schedule.rounds, message);
+    let mac = check_with(&words, schedule.rounds, message);
     Checked { answer, check: mac }
 }
 
@@ -61,9 +59,8 @@ pub fn start(key: &[u8]) -> Started
 pub fn fed_with(record: Record, part: &[u8]) -> Record
     ensures { λ r. ⌜ r ≡ calls.fedWith «record» (now (part .entry)) ⌝ }
 {
-    let table = forward_table();
     let words = record.words;
-    let run = run_of(record).fed(&table, &words, record.rounds, part);
+    let run = run_of(record).fed(&words, record.rounds, part);
     record_of(words, record.rounds, run)
 }
 
@@ -71,27 +68,26 @@ pub fn fed_with(record: Record, part: &[u8]) -> Record
 pub fn close(record: Record) -> [u8; 16]
     ensures { λ r. ⌜ r ≡ calls.closeOf «record» ⌝ }
 {
-    let table = forward_table();
     let run = run_of(record);
     let rounds = record.rounds;
-    close_run(&table, &record.words, rounds, run)
+    close_run(&record.words, rounds, run)
 }
 
 // The check under a schedule, with the forward table lent, for callers that make many.
-pub fn check_with(table: &[u32; 256], words: &[u32; 60], rounds: usize, message: &[u8]) -> [u8; 16]
-    ensures { λ r. ⌜ r ≡ spec.cmac (oneTable (now (table .entry)) (now (words .entry)) rounds) (now (message .entry)) ⌝ }
+pub fn check_with(words: &[u32; 60], rounds: usize, message: &[u8]) -> [u8; 16]
+    ensures { λ r. ⌜ r ≡ spec.cmac (standard (now (words .entry)) rounds) (now (message .entry)) ⌝ }
 {
-    let run = Run::new().fed(table, words, rounds, message);
-    close_run(table, words, rounds, run)
+    let run = Run::new().fed(words, rounds, message);
+    close_run(words, rounds, run)
 }
 
 // The check of a run, with the subkeys made for it.
-fn close_run(table: &[u32; 256], words: &[u32; 60], rounds: usize, run: Run) -> [u8; 16]
-    ensures { λ r. ⌜ r ≡ running.closed (oneTable (now (table .entry)) (now (words .entry)) rounds) run ⌝ }
+fn close_run(words: &[u32; 60], rounds: usize, run: Run) -> [u8; 16]
+    ensures { λ r. ⌜ r ≡ running.closed (standard (now (words .entry)) rounds) run ⌝ }
 {
-    let key1 = subkeys::key1(table, words, rounds);
+    let key1 = subkeys::key1(words, rounds);
     let key2 = subkeys::key2(key1);
-    run.closed(table, words, rounds, &key1, &key2)
+    run.closed(words, rounds, &key1, &key2)
 }
 
 fn run_of(record: Record) -> Run

@@ -5,7 +5,7 @@ use mathlib.Core.Bool.{Bool, _&&_}
 use mathlib.Core.List.{List, [], _∷_, _++_}
 use lib.Dec.{eqb, ltb, leb}
 use lib.ListN.{length, getD}
-use Rattle.octets.specs.Octets.{choose, xor, padTo}
+use Rattle.octets.specs.Octets.{choose, xor, over}
 use Rattle.octets.specs.Words.{word}
 use Rattle.field.specs.Field.{xPower}
 use Rattle.words.specs.Columns.{rotWord, subWord}
@@ -37,9 +37,17 @@ keyExpansion sub key nk (suc i) =
     keyExpansion sub key nk i ++ (nextWord sub key nk (keyExpansion sub key nk i) i ∷ [])
 
 -- a key of so many bytes has nk words, one at least, and n words have room
-abbrev pub expandable : ℕ → ℕ → ℕ → Bool
-expandable bytes nk n = ltb 0 nk && (leb nk (bytes / 4) && leb n 60)
+abbrev pub expandable : ℕ → ℕ → ℕ → ℕ → Bool
+expandable bytes nk n room = ltb 0 nk && (leb nk (bytes / 4) && leb n room)
 
--- the first n words, and zeros up to 60; zeros alone where the key has not so many words, or these have no room
-unfoldable pub firstWords : (ℕ → ℕ) → List ℕ → ℕ → ℕ → List ℕ
-firstWords sub key nk n = padTo 60 (choose (expandable (length key) nk n) (keyExpansion sub key nk n) [])
+-- the first n words in the place of the first of w; w as it is where the key has not so many words, or these have no room
+unfoldable pub expandedOver : (ℕ → ℕ) → List ℕ → ℕ → ℕ → List ℕ → List ℕ
+expandedOver sub key nk n w = choose (expandable (length key) nk n (length w)) (over (keyExpansion sub key nk n) w) w
+
+-- ---- what the code adds in a group of nk words: at its first word, with the constant, and at the word in place m
+
+unfoldable pub firstTemp : (ℕ → ℕ) → ℕ → ℕ → ℕ
+firstTemp sub constant last = xor (subWord sub (rotWord last)) (word constant 0 0 0)
+
+unfoldable pub laterTemp : (ℕ → ℕ) → ℕ → ℕ → ℕ → ℕ
+laterTemp sub nk m last = choose (ltb 6 nk) (choose (eqb m 4) (subWord sub last) last) last

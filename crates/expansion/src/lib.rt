@@ -4,50 +4,56 @@ use words::join;
 use words::rot_word;
 use words::sub_word;
 ghost use mathlib.Core.Path.{_≡_};
-ghost use Prim.Native.Nat.{_+_, _*_, _≤_, _<_};
+ghost use Prim.Native.Nat.{_+_, _*_, _≤_, _<_, min};
 ghost use lib.ListN.{length};
-ghost use Rattle.octets.specs.Octets.{padTo, entry};
-ghost use Rattle.field.specs.Field.{xPower};
-ghost use Rattle.expansion.specs.Expansion.{rCon, temp, keyWord, nextWord, keyExpansion, firstWords};
+ghost use Rattle.octets.specs.Octets.{over, entry};
+ghost use Rattle.expansion.specs.Expansion.{firstTemp, laterTemp, keyWord, keyExpansion, expandedOver};
 
-// The first n words of the expansion of a key of nk words, with the S-box lent, and zeros after them; zeros alone where the key has fewer
-// words, nk is 0 or there is no room for n.
-pub fn expand(sbox: &[u8; 256], key: &[u8], nk: usize, n: usize) -> [u32; 60]
-    ensures { λ r. ⌜ r ≡ firstWords (entry (now (sbox .entry))) (now (key .entry)) nk n ⌝ }
+// The first n words of the expansion of a key of nk words, with the S-box lent, in the place of the first that a slice has. It stays as it
+// is where the key has fewer words, nk is 0 or there is no room for n.
+pub fn expand_into(sbox: &[u8; 256], key: &[u8], nk: usize, n: usize, words: &mut [u32])
+    ensures { λ _. ⌜ now (words .exit) ≡ expandedOver (entry (now (sbox .entry))) (now (key .entry)) nk n (now (words .entry)) ⌝ }
 {
     if nk == 0 {
-        return [0u32; 60];
+        return;
     }
     if key.len() / 4 < nk {
-        return [0u32; 60];
+        return;
     }
-    if 60 < n {
-        return [0u32; 60];
+    if words.len() < n {
+        return;
     }
-    words_of(sbox, key, nk, n)
+    words_into(sbox, key, nk, n, words);
 }
 
-fn words_of(sbox: &[u8; 256], key: &[u8], nk: usize, n: usize) -> [u32; 60]
-    requires { ⌜ (0 < nk) × ((nk * 4 ≤ length (now key)) × (n ≤ 60)) ⌝ }
-    ensures { λ r. ⌜ r ≡ padTo 60 (keyExpansion (entry (now (sbox .entry))) (now (key .entry)) nk n) ⌝ }
+// The same of a key that has the words, where there is room. The words of the key come first; then groups of nk words, each with its constant.
+fn words_into(sbox: &[u8; 256], key: &[u8], nk: usize, n: usize, words: &mut [u32])
+    requires { ⌜ (0 < nk) × ((nk * 4 ≤ length (now key)) × (n ≤ length (now words))) ⌝ }
+    ensures { λ _. ⌜ now (words .exit) ≡ over (keyExpansion (entry (now (sbox .entry))) (now (key .entry)) nk n) (now (words .entry)) ⌝ }
 {
-    let mut words = [0u32; 60];
-    for i in 0..n {
-        let w = next_word(sbox, key, nk, &words, i);
-        words[i] = w;
+    let head = shorter(nk, n);
+    for i in 0..head {
+        words[i] = key_word(key, i);
     }
-    words
+    let mut constant: u8 = 1;
+    let mut i = nk;
+    while i < n {
+        let size = shorter(nk, n - i);
+        let mut t = words[i - nk] ^ first_temp(sbox, constant, words[i - 1]);
+        words[i] = t;
+        for m in 1..size {
+            t = words[i + m - nk] ^ later_temp(sbox, nk, m, t);
+            words[i + m] = t;
+        }
+        constant = double(constant);
+        i += size;
+    }
 }
 
-// Word i, of the key or of the words before it.
-fn next_word(sbox: &[u8; 256], key: &[u8], nk: usize, words: &[u32; 60], i: usize) -> u32
-    requires { ⌜ (0 < nk) × ((nk * 4 ≤ length (now key)) × (i < 60)) ⌝ }
-    ensures { λ r. ⌜ r ≡ nextWord (entry (now (sbox .entry))) (now (key .entry)) nk (now (words .entry)) i ⌝ }
+fn shorter(a: usize, b: usize) -> usize
+    ensures { λ r. ⌜ r ≡ min a b ⌝ }
 {
-    if i < nk {
-        return key_word(key, i);
-    }
-    words[i - nk] ^ temp(sbox, nk, i, words[i - 1])
+    if a < b { a } else { b }
 }
 
 fn key_word(key: &[u8], i: usize) -> u32
@@ -57,36 +63,21 @@ fn key_word(key: &[u8], i: usize) -> u32
     join(key[i * 4], key[i * 4 + 1], key[i * 4 + 2], key[i * 4 + 3])
 }
 
-// What word i adds to the word nk before it: the last word, by turns rotated, substituted, or as it is.
-fn temp(sbox: &[u8; 256], nk: usize, i: usize, last: u32) -> u32
-    requires { ⌜ (0 < nk) × (nk ≤ i) ⌝ }
-    ensures { λ r. ⌜ r ≡ temp (entry (now (sbox .entry))) nk i last ⌝ }
+// What the first word of a group adds to the word nk before it, of the last word; and what the word in place m of its group does.
+fn first_temp(sbox: &[u8; 256], constant: u8, last: u32) -> u32
+    ensures { λ r. ⌜ r ≡ firstTemp (entry (now (sbox .entry))) constant last ⌝ }
 {
-    if i % nk == 0 {
-        let x = rot_word(last);
-        return sub_word(sbox, x) ^ rcon(i / nk);
-    }
+    let x = rot_word(last);
+    sub_word(sbox, x) ^ join(constant, 0, 0, 0)
+}
+
+fn later_temp(sbox: &[u8; 256], nk: usize, m: usize, last: u32) -> u32
+    ensures { λ r. ⌜ r ≡ laterTemp (entry (now (sbox .entry))) nk m last ⌝ }
+{
     if 6 < nk {
-        if i % nk == 4 {
+        if m == 4 {
             return sub_word(sbox, last);
         }
     }
     last
-}
-
-fn rcon(n: usize) -> u32
-    requires { ⌜ 0 < n ⌝ }
-    ensures { λ r. ⌜ r ≡ rCon n ⌝ }
-{
-    join(power_of_x(n - 1), 0, 0, 0)
-}
-
-fn power_of_x(n: usize) -> u8
-    ensures { λ r. ⌜ r ≡ xPower n ⌝ }
-{
-    let mut x: u8 = 1;
-    for i in 0..n {
-        x = double(x);
-    }
-    x
 }

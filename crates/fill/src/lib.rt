@@ -1,30 +1,29 @@
 // Whether what follows a payload in its block is zero, found piece by piece: no more than 16 decrypted bytes are held.
+use aes_rounds_inverse::decrypt_block;
 use blocks::load;
+use blocks::xor;
 use rounds::encrypt_block;
-use sp800_38a::Operation;
-use steps::step;
 ghost use mathlib.Core.Path.{_≡_};
 ghost use mathlib.Core.Bool.{_&&_, not};
 ghost use Prim.Native.Nat.{_<_};
 ghost use lib.Dec.{eqb, leb};
 ghost use lib.ListN.{length, take, drop};
-ghost use Rattle.octets.specs.Octets.{entry};
-ghost use Rattle.lookups.specs.Lookups.{tableEncrypt, tableCipher};
+ghost use Rattle.fips197.specs.Cipher.{encryptBlock};
+ghost use Rattle.fips197.specs.Equivalent.{equivalentCipher};
+ghost use Rattle.sbox.specs.Sbox.{sBox};
 ghost use Rattle.sp800_38a.specs.Equations.{previous};
 ghost use Rattle.format.specs.Sealed.{allZero, zeroAfter};
 ghost use Rattle.format.specs.Lent.{filledOut};
 
 // For a payload of this length. What is no block of 512 bytes has no zero fill.
 pub fn fill_is_zero(
-    forth: &[u32; 256],
-    back: &[u32; 256],
     ewords: &[u32; 60],
     dwords: &[u32; 60],
     rounds: usize,
     block: &[u8],
     len: usize,
 ) -> bool
-    ensures { λ r. ⌜ r ≡ filledOut (tableCipher (now (forth .entry)) (now (back .entry)) (now (ewords .entry)) (now (dwords .entry)) rounds) len (now (block .entry)) ⌝ }
+    ensures { λ r. ⌜ r ≡ filledOut (equivalentCipher (now (ewords .entry)) (now (dwords .entry)) rounds) len (now (block .entry)) ⌝ }
 {
     if block.len() != 512 {
         return false;
@@ -32,13 +31,11 @@ pub fn fill_is_zero(
     if len >= 480 {
         return true;
     }
-    zero_after(forth, back, ewords, dwords, rounds, block, len)
+    zero_after(ewords, dwords, rounds, block, len)
 }
 
 // The pieces before the payload's end are not decrypted: of a full block, none.
 fn zero_after(
-    forth: &[u32; 256],
-    back: &[u32; 256],
     ewords: &[u32; 60],
     dwords: &[u32; 60],
     rounds: usize,
@@ -46,27 +43,18 @@ fn zero_after(
     len: usize,
 ) -> bool
     requires { ⌜ (length (now block) ≡ 512) × (len < 480) ⌝ }
-    ensures { λ r. ⌜ r ≡ zeroAfter (tableCipher (now (forth .entry)) (now (back .entry)) (now (ewords .entry)) (now (dwords .entry)) rounds) len (now (block .entry)) ⌝ }
+    ensures { λ r. ⌜ r ≡ zeroAfter (equivalentCipher (now (ewords .entry)) (now (dwords .entry)) rounds) len (now (block .entry)) ⌝ }
 {
     let mut i = len / 16;
     let mut from = len % 16;
-    let mut chain = chain_before(forth, ewords, rounds, block, i);
+    let mut chain = chain_before(ewords, rounds, block, i);
     while i < 30 {
         let ciphertext = load(block, 16 + 16 * i);
-        let opened = step(
-            back,
-            dwords,
-            rounds,
-            Operation::CbcDecrypt,
-            chain,
-            ciphertext,
-        );
-        let plain = opened.out;
-        let next = opened.next;
+        let plain = xor(decrypt_block(dwords, rounds, ciphertext), chain);
         if !zero_from(plain, from) {
             return false;
         }
-        chain = next;
+        chain = ciphertext;
         from = 0;
         i += 1;
     }
@@ -74,19 +62,13 @@ fn zero_after(
 }
 
 // What piece i is chained to: the ciphertext before it, which for the first is the header, and that is encrypted.
-fn chain_before(
-    forth: &[u32; 256],
-    ewords: &[u32; 60],
-    rounds: usize,
-    block: &[u8],
-    i: usize,
-) -> [u8; 16]
+fn chain_before(ewords: &[u32; 60], rounds: usize, block: &[u8], i: usize) -> [u8; 16]
     requires { ⌜ (length (now block) ≡ 512) × (i < 30) ⌝ }
-    ensures { λ r. ⌜ r ≡ previous 16 (tableEncrypt (entry (now (forth .entry))) (now (ewords .entry)) rounds (take 16 (now (block .entry)))) (take 480 (drop 16 (now (block .entry)))) i ⌝ }
+    ensures { λ r. ⌜ r ≡ previous 16 (encryptBlock sBox (now (ewords .entry)) rounds (take 16 (now (block .entry)))) (take 480 (drop 16 (now (block .entry)))) i ⌝ }
 {
     let ciphertext = load(block, 16 * i);
     if i == 0 {
-        return encrypt_block(forth, ewords, rounds, ciphertext);
+        return encrypt_block(ewords, rounds, ciphertext);
     }
     ciphertext
 }

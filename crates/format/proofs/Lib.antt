@@ -1,5 +1,6 @@
 pub mod Editions
 pub mod Sizes
+pub mod Schedules
 pub mod Opening
 pub mod Sealing
 pub mod Judging

@@ -1,20 +1,22 @@
--- How long the parts of a block are, over ciphers that give 16 bytes whatever they are given, as those over lent tables do. Assumes nothing.
+-- How long the parts of a block are, over ciphers that give 16 bytes whatever they are given, as AES does under any schedule. Assumes nothing.
 use mathlib.Core.Path.{_≡_, refl, ap, _∙_}
 use mathlib.Core.Bool.{Bool, true, false}
 use mathlib.Core.List.{List, _++_}
-use Prim.Native.Nat.{ℕ, zero, suc, _*_, _≤_}
+use Prim.Native.Nat.{ℕ, zero, suc, _+_, _*_, _/_, _%_, _≤_}
 use native.Mathlib.Omega.{arith}
-use lib.ListN.{length, take, drop, replicate, length-append, length-drop}
+use lib.ListN.{length, getD, take, drop, replicate, length-append, length-drop}
 use lib.Seq.{length-take-le}
-use Rattle.octets.specs.Octets.{choose, entry}
-use Rattle.octets.specs.Words.{bytesOf}
+use Rattle.octets.specs.Octets.{choose, xor}
+use Rattle.octets.specs.Words.{byte}
 use Rattle.octets.specs.Blocks.{_⊕_, BlockCipher}
 use Rattle.octets.proofs.Blocks.{⊕-length}
 use Rattle.octets.proofs.Same.{same-true}
+use Rattle.octets.proofs.Fill.{length-tabulate}
 use Rattle.schedule.specs.Schedule.{roundCount}
-use Rattle.lookups.specs.Columns.{blockOf, columnsOf}
-use Rattle.lookups.specs.Lookups.{tableEncrypt, tableDecrypt, tableForth, tableBack}
-use Rattle.lookups.specs.declared.Columns.{Columns}
+use Rattle.fips197.specs.State.{aes, at, addRoundKey}
+use Rattle.fips197.specs.Cipher.{cipher, encryptBlock}
+use Rattle.fips197.specs.Equivalent.{eqInvCipher, eqDecryptBlock}
+use Rattle.sbox.specs.Sbox.{sBox}
 use Rattle.sp800_38a.specs.Pieces.{outputOf}
 use Rattle.sp800_38a.specs.Modes.{machine}
 use Rattle.sp800_38a.specs.declared.Operation.the-variants.{CbcDecrypt}
@@ -27,20 +29,30 @@ use Rattle.format.specs.Lent.{lentMac}
 abbrev pub Sixteen : (List ℕ → List ℕ) → Type 0
 Sixteen f = (x : List ℕ) → length (f x) ≡ 16
 
--- four words, or zeros
-chosen-sized : (k : Bool) (s : Columns) → length (choose k (blockOf s) (replicate 16 0)) ≡ 16
-unfolding bytesOf
-chosen-sized true s = refl
-chosen-sized false s = refl
+added-sized : (w : List ℕ) (n : ℕ) (s : List ℕ) → length (addRoundKey aes w n s) ≡ 16
+unfolding addRoundKey
+added-sized w n s = length-tabulate 16 (λ k. xor (at s (k % 4) (k / 4)) (byte (k % 4) (getD w (4 * n + k / 4) 0)))
 
-module _ (t : ℕ → ℕ) (w : List ℕ) (nr : ℕ) where
-  pub encrypt-sized : Sixteen (tableEncrypt t w nr)
-  unfolding tableEncrypt
-  encrypt-sized x = chosen-sized (roundCount nr) (tableForth t w nr (columnsOf x))
+cipher-sized : (sub : ℕ → ℕ) (w : List ℕ) (nr : ℕ) → Sixteen (cipher aes sub w nr)
+unfolding cipher
+cipher-sized sub w nr x = added-sized w nr _
 
-  pub decrypt-sized : Sixteen (tableDecrypt t w nr)
-  unfolding tableDecrypt
-  decrypt-sized x = chosen-sized (roundCount nr) (tableBack t w nr (columnsOf x))
+back-sized : (inv : ℕ → ℕ) (w : List ℕ) (nr : ℕ) → Sixteen (eqInvCipher aes inv w nr)
+unfolding eqInvCipher
+back-sized inv w nr x = added-sized w 0 _
+
+-- such a block, or zeros
+chosen-sized : (k : Bool) (s : List ℕ) → length s ≡ 16 → length (choose k s (replicate 16 0)) ≡ 16
+chosen-sized true s e = e
+chosen-sized false s e = refl
+
+pub encrypt-sized : (sub : ℕ → ℕ) (w : List ℕ) (nr : ℕ) → Sixteen (encryptBlock sub w nr)
+unfolding encryptBlock
+encrypt-sized sub w nr x = chosen-sized (roundCount nr) (cipher aes sub w nr x) (cipher-sized sub w nr x)
+
+pub decrypt-sized : (inv : ℕ → ℕ) (w : List ℕ) (nr : ℕ) → Sixteen (eqDecryptBlock inv w nr)
+unfolding eqDecryptBlock
+decrypt-sized inv w nr x = chosen-sized (roundCount nr) (eqInvCipher aes inv w nr x) (back-sized inv w nr x)
 
 -- ---- the 480 bytes
 
@@ -69,9 +81,9 @@ module _ (b : List ℕ) (size : length b ≡ 512) where
 
 -- ---- the check
 
-pub mac-sized : (t w : List ℕ) (nr : ℕ) (k1 k2 : List ℕ) → Sixteen (lentMac t w nr k1 k2)
+pub mac-sized : (w : List ℕ) (nr : ℕ) (k1 k2 : List ℕ) → Sixteen (lentMac w nr k1 k2)
 unfolding cmacBy endedBy
-mac-sized t w nr k1 k2 m = encrypt-sized (entry t) w nr _
+mac-sized w nr k1 k2 m = encrypt-sized sBox w nr _
 
 module _ (mac : Mac) (sized : Sixteen mac) where
   -- only a block of 512 bytes can carry its check

@@ -1,4 +1,4 @@
--- One block as the code has it: over lent tables and schedules, whatever these hold, and on slices of any length.
+-- One block as the code has it: over lent schedules, whatever these hold, and on slices of any length.
 -- Assumes nothing: these are definitions.
 use Prim.Native.Nat.{ℕ}
 use mathlib.Core.Bool.{Bool, _&&_}
@@ -10,7 +10,8 @@ use Rattle.octets.specs.Blocks.{BlockCipher}
 use Rattle.blocks.specs.Blocks.{blockAt}
 use Rattle.schedule.specs.Schedule.{roundCount, keyNumber}
 use Rattle.schedule.specs.declared.Expanded.{Expanded}
-use Rattle.lookups.specs.Lookups.{tableCipher, oneTable}
+use Rattle.fips197.specs.Cipher.{standard}
+use Rattle.fips197.specs.Equivalent.{equivalentCipher}
 use Rattle.sp800_38b.specs.Cmac.{cmacBy}
 use Rattle.layout.specs.Layout.{bodySize, blockSize, headOf}
 use Rattle.layout.specs.declared.Head.{Head}
@@ -28,14 +29,14 @@ usable n = roundCount (n .enc) && roundCount (n .chk)
 abbrev pub bothTaken : (ekey ckey : Expanded) → Bool
 bothTaken ekey ckey = eqb (keyNumber (ekey .answer)) 0 && eqb (keyNumber (ckey .answer)) 0
 
--- the check over a lent table, schedule and subkeys
-abbrev pub lentMac : (forth cwords : List ℕ) → (rounds : ℕ) → (key1 key2 : List ℕ) → Mac
-lentMac forth cwords n key1 key2 = cmacBy (oneTable forth cwords n) key1 key2
+-- the check over a lent schedule and subkeys
+abbrev pub lentMac : (cwords : List ℕ) → (rounds : ℕ) → (key1 key2 : List ℕ) → Mac
+lentMac cwords n key1 key2 = cmacBy (standard cwords n) key1 key2
 
-abbrev pub lentKeys : (forth back ewords dwords cwords key1 key2 : List ℕ) → Rounds → Keys
-lentKeys forth back ewords dwords cwords key1 key2 n = record {
-  enc = tableCipher forth back ewords dwords (n .enc);
-  mac = lentMac forth cwords (n .chk) key1 key2;
+abbrev pub lentKeys : (ewords dwords cwords key1 key2 : List ℕ) → Rounds → Keys
+lentKeys ewords dwords cwords key1 key2 n = record {
+  enc = equivalentCipher ewords dwords (n .enc);
+  mac = lentMac cwords (n .chk) key1 key2;
   usable = usable n;
 }
 

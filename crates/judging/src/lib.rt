@@ -1,4 +1,4 @@
-// The verdict on a block of an image, with the tables and schedules lent that its ciphers look up in.
+// The verdict on a block of an image, under the schedules and subkeys that are lent to it.
 use blocks::load;
 use checking::check_holds;
 use fill::fill_is_zero;
@@ -19,8 +19,6 @@ ghost use Rattle.format.specs.Lent.{lentKeys, headRead, judged};
 
 // The verdict of a reader of both editions on a block, and its header. Nothing is opened for it: the fill's test decrypts piece by piece.
 pub fn judge(
-    forth: &[u32; 256],
-    back: &[u32; 256],
     ewords: &[u32; 60],
     dwords: &[u32; 60],
     cwords: &[u32; 60],
@@ -30,12 +28,10 @@ pub fn judge(
     progress: Progress,
     block: &[u8],
 ) -> Judged
-    ensures { λ r. ⌜ r ≡ judged (lentKeys (now (forth .entry)) (now (back .entry)) (now (ewords .entry)) (now (dwords .entry)) (now (cwords .entry)) (now (key1 .entry)) (now (key2 .entry)) rounds) progress (now (block .entry)) ⌝ }
+    ensures { λ r. ⌜ r ≡ judged (lentKeys (now (ewords .entry)) (now (dwords .entry)) (now (cwords .entry)) (now (key1 .entry)) (now (key2 .entry)) rounds) progress (now (block .entry)) ⌝ }
 {
     let head = head_of(load(block, 0));
     let verdict = verdict_on(
-        forth,
-        back,
         ewords,
         dwords,
         cwords,
@@ -51,8 +47,6 @@ pub fn judge(
 
 // The tests in their order, with the header that the block has.
 fn verdict_on(
-    forth: &[u32; 256],
-    back: &[u32; 256],
     ewords: &[u32; 60],
     dwords: &[u32; 60],
     cwords: &[u32; 60],
@@ -64,14 +58,14 @@ fn verdict_on(
     block: &[u8],
 ) -> Verdict
     requires { ⌜ head ≡ headRead (now block) ⌝ }
-    ensures { λ r. ⌜ r ≡ ofBoth (lentKeys (now (forth .entry)) (now (back .entry)) (now (ewords .entry)) (now (dwords .entry)) (now (cwords .entry)) (now (key1 .entry)) (now (key2 .entry)) rounds) .verdict progress (now (block .entry)) ⌝ }
+    ensures { λ r. ⌜ r ≡ ofBoth (lentKeys (now (ewords .entry)) (now (dwords .entry)) (now (cwords .entry)) (now (key1 .entry)) (now (key2 .entry)) rounds) .verdict progress (now (block .entry)) ⌝ }
 {
     if progress::closed(progress) {
         return Verdict::Refused(Reason::AfterLast);
     }
     let last = progress.last;
     let covered = tail_size(selected(head.reserved));
-    if !check_holds(forth, cwords, key1, key2, rounds, &last[0..covered], block) {
+    if !check_holds(cwords, key1, key2, rounds, &last[0..covered], block) {
         return Verdict::Refused(Reason::CheckWrong);
     }
     let verdict = judge_head(progress, head, mark_for(progress, head.reserved));
@@ -79,7 +73,7 @@ fn verdict_on(
         return verdict;
     };
     let len = head.len as usize;
-    if !fill_is_zero(forth, back, ewords, dwords, rounds.enc, block, len) {
+    if !fill_is_zero(ewords, dwords, rounds.enc, block, len) {
         return Verdict::Refused(Reason::FillNotZero);
     }
     verdict

@@ -6,9 +6,9 @@ use Rattle.octets.specs.Octets.{xor}
 use Rattle.octets.specs.Words.{word, byte}
 use Rattle.octets.proofs.Xor.{xor-medial, xor-zero, zero-xor}
 use Rattle.octets.proofs.Words.{byte-lt, byte-xor, byte0-word, byte1-word, byte2-word, byte3-word, xor-word}
-use Rattle.field.specs.Field.{xTimes, _•_}
-use Rattle.field.proofs.Laws.{product-xor, product-one, product-two, product-three}
-use Rattle.words.specs.Columns.{rotWord, rotTwo, rotThree, diagonal, subMixColumn, subByte}
+use Rattle.field.specs.Field.{_•_}
+use Rattle.field.proofs.Laws.{product-xor}
+use Rattle.words.specs.Columns.{rotWord, rotTwo, rotThree, diagonal, subMixColumn}
 use Rattle.mixing.specs.Mixing.{row, mixRow, invMixRow, column, mixColumn, invMixColumn, mixedEntry, invMixedEntry}
 use Rattle.mixing.proofs.Mix.{row-lt, column-word}
 
@@ -30,7 +30,7 @@ module _ (a b c d : ℕ) (ha : a < 256) (hb : b < 256) (hc : c < 256) (hd : d < 
 -- ---- the product with a matrix is linear
 
 module _ (p q u v : ℕ) where
-  row-xor : {a b c d a' b' c' d' : ℕ} → a < 256 → b < 256 → c < 256 → d < 256 → a' < 256 → b' < 256 → c' < 256 → d' < 256
+  pub row-xor : {a b c d a' b' c' d' : ℕ} → a < 256 → b < 256 → c < 256 → d < 256 → a' < 256 → b' < 256 → c' < 256 → d' < 256
       → row p q u v (xor a a') (xor b b') (xor c c') (xor d d') ≡ xor (row p q u v a b c d) (row p q u v a' b' c' d')
   unfolding row
   row-xor {a} {b} {c} {d} {a'} {b'} {c'} {d'} ha hb hc hd ha' hb' hc' hd' =
@@ -113,23 +113,3 @@ module _ (sub : ℕ → ℕ) (lt : (k : ℕ) → k < 256 → sub k < 256) (t : �
   pub sub-mix-column-mixes-back : ((k : ℕ) → k < 256 → t k ≡ invMixedEntry sub k) → subMixColumn t a b c d ≡ invMixColumn (diagonal sub a b c d)
   unfolding invMixColumn
   sub-mix-column-mixes-back e = looked 14 11 13 9 (λ k h. e k h ∙ alone invMixRow k h) ∙ sym (whole invMixRow)
-
-doubled-none : xTimes 0 ≡ 0
-unfolding xTimes xor
-doubled-none = refl
-
-third-row : (s : ℕ) → mixRow 0 0 s 0 ≡ s
-unfolding row xor
-third-row s =
-    let z : xTimes 0 ≡ 0 = doubled-none in
-    rw (product-two 0, product-three 0, product-one s, product-one 0, z, xor-zero 0, xor-zero s, zero-xor s)
-
--- what the table of the mixing has substituted
-pub middle-entry : (sub : ℕ → ℕ) → ((k : ℕ) → k < 256 → sub k < 256) → (k : ℕ) → k < 256 → subByte (mixedEntry sub) k ≡ sub k
-unfolding mixColumn column
-middle-entry sub lt k h =
-    let s = lt k h in
-    let o : 0 < 256 = omega arith in
-    ap (byte 2) (column-word (sub k) 0 0 0 s o o o mixRow _ refl)
-    ∙ byte2-word _ _ _ _ (row-lt 2 3 1 1 s o o o) (row-lt 2 3 1 1 o o o s) (row-lt 2 3 1 1 o o s o) (row-lt 2 3 1 1 o s o o)
-    ∙ third-row (sub k)

@@ -9,11 +9,11 @@ use Rattle.octets.specs.Octets.{Bytes}
 use Rattle.sbox.specs.Sbox.{sBox}
 use Rattle.schedule.specs.Schedule.{scheduleOf, keyNumber}
 use Rattle.schedule.specs.declared.Expanded.{Expanded}
+use Rattle.schedule.proofs.Laws.{schedule-length}
 use Rattle.blocks.specs.Blocks.{blockAt}
 use Rattle.fips197.specs.Cipher.{aesOf}
-use Rattle.lookups.specs.Lookups.{tableCipher, inverseWords}
-use Rattle.tables.specs.Tables.{forwardTable, inverseTable}
-use Rattle.lookups.proofs.Lawful.{lent-agrees}
+use Rattle.fips197.specs.Equivalent.{equivalentCipher, inverseWords}
+use Rattle.fips197.proofs.Equivalent.{equivalent-agrees}
 use Rattle.fips197.proofs.Aes.{key-lawful}
 use Rattle.sp800_38a.specs.Pieces.{pieceCount}
 use Rattle.sp800_38a.specs.Modes.{ivLength}
@@ -73,15 +73,15 @@ module _ (o : Operation) (key iv inp out : List ℕ) (e : Expanded) (r : ModeAns
   answered = pr ∙ rw pe
 
   pub written : (b st x : List ℕ) → b ≡ blockAt iv 0 → Bytes iv → Bytes inp → r ≡ Done
-      → (st, x) ≡ runOver (tableCipher forwardTable inverseTable (e .schedule .words) (inverseWords (e .schedule .words) (e .schedule .rounds)) (e .schedule .rounds)) o b inp out
+      → (st, x) ≡ runOver (equivalentCipher (e .schedule .words) (inverseWords (e .schedule .words) (e .schedule .rounds)) (e .schedule .rounds)) o b inp out
       → (st ≡ modeNext r o key iv inp) × (x ≡ modeOutput r o key iv inp out)
   unfolding modeAnswer
   written b st x pb bi bs d po =
       let f = met (keyNumber (scheduleOf sBox key .answer)) (ivLength 16 o) (length iv) (leftOver o (length inp)) (length inp) (length out) (sym answered ∙ d) in
       let k = scheduleOf sBox key .schedule in
-      let c = tableCipher forwardTable inverseTable (k .words) (inverseWords (k .words) (k .rounds)) (k .rounds) in
+      let c = equivalentCipher (k .words) (inverseWords (k .words) (k .rounds)) (k .rounds) in
       let p : (st, x) ≡ runOver c o (blockAt iv 0) inp out = po ∙ rw (pb, pe) in
-      let q = through-mode c (aesOf key) (lent-agrees (k .words) (k .rounds)) (key-lawful key (f .key-taken)) o (blockAt iv 0) inp (iv-chain o iv (f .iv-right) bi) bs (left-none o (length inp) (f .taken)) out (f .room) in
+      let q = through-mode c (aesOf key) (equivalent-agrees (k .words) (schedule-length sBox key) (k .rounds)) (key-lawful key (f .key-taken)) o (blockAt iv 0) inp (iv-chain o iv (f .iv-right) bi) bs (left-none o (length inp) (f .taken)) out (f .room) in
       let n = pieceCount 16 inp in (
         ap (λ (t : List ℕ × List ℕ). t .0) (p ∙ q) ∙ rw d (handed-iv (aesOf key) iv n inp o (f .iv-right)),
         ap (λ (t : List ℕ × List ℕ). t .1) (p ∙ q) ∙ rw (d, iv-same (aesOf key) iv n inp o (f .iv-right)),

@@ -1,15 +1,12 @@
 // The modes of SP 800-38A under a key: ECB, CBC and CFB with 16-byte segments each way, on whole pieces of 16 bytes, and OFB on any length.
+use aes_schedule_inverse::inverse_words;
 use blocks::load;
-use cipher::inverse_words;
 use mode_answers::ModeAnswer;
 use mode_answers::judge;
 use schedule::KeySchedule;
 use sp800_38a::Operation;
-use tables::forward_table;
-use tables::inverse_table;
 ghost use mathlib.Core.Path.{_≡_};
-ghost use Rattle.lookups.specs.Lookups.{tableCipher, inverseWords};
-ghost use Rattle.tables.specs.Tables.{forwardTable, inverseTable};
+ghost use Rattle.fips197.specs.Equivalent.{equivalentCipher, inverseWords};
 ghost use Rattle.sp800_38a.specs.Modes as standard;
 ghost use Rattle.pieces.specs.Runs.{runOver};
 ghost use Rattle.modes.specs.Calls.{modeAnswer, modeOutput, answerWith};
@@ -49,7 +46,7 @@ pub fn apply(
     Applied { answer, next }
 }
 
-// Runs through an operation under a schedule, with the one table that it looks up in; the answer is what the next piece is chained to.
+// Runs through an operation under a schedule, mixed back first where it uses the inverse cipher; the answer is what the next piece is chained to.
 fn under_schedule(
     words: &[u32; 60],
     rounds: usize,
@@ -58,16 +55,14 @@ fn under_schedule(
     input: &[u8],
     output: &mut [u8],
 ) -> [u8; 16]
-    ensures { λ r. ⌜ (r, now (output .exit)) ≡ runOver (tableCipher forwardTable inverseTable (now (words .entry)) (inverseWords (now (words .entry)) rounds) rounds) operation iv (now (input .entry)) (now (output .entry)) ⌝ }
+    ensures { λ r. ⌜ (r, now (output .exit)) ≡ runOver (equivalentCipher (now (words .entry)) (inverseWords (now (words .entry)) rounds) rounds) operation iv (now (input .entry)) (now (output .entry)) ⌝ }
 {
     if inverts(operation) {
-        let table = inverse_table();
         let mut inverse = [0u32; 60];
         inverse_words(words, rounds, &mut inverse);
-        return pieces::run(&table, &inverse, rounds, operation, iv, input, output);
+        return pieces::run(&inverse, rounds, operation, iv, input, output);
     }
-    let table = forward_table();
-    pieces::run(&table, words, rounds, operation, iv, input, output)
+    pieces::run(words, rounds, operation, iv, input, output)
 }
 
 // Whether an operation uses the inverse cipher: decryption in CFB does not, nor does OFB.

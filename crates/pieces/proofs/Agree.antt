@@ -1,4 +1,4 @@
--- A run over the tables of the standard is the operation over AES. Assumes nothing.
+-- A run over a cipher that agrees with AES is the operation over AES. Assumes nothing.
 use mathlib.Core.Path.{_≡_, refl, sym, ap, ap₂, _∙_}
 use mathlib.Core.Bool.{Bool, true, false, true≢false}
 use mathlib.Core.List.{List, [], _++_, append-nil}
@@ -11,8 +11,8 @@ use Rattle.octets.specs.Octets.{choose, Bytes, over}
 use Rattle.octets.specs.Blocks.{BlockCipher, Lawful}
 use Rattle.blocks.specs.Blocks.{blockAt}
 use Rattle.blocks.proofs.Laws.{block-at, block-octets}
-use Rattle.lookups.specs.Lookups.{tableCipher, oneTable}
-use Rattle.lookups.proofs.Lawful.{Agree}
+use Rattle.fips197.specs.Equivalent.{equivalentCipher, oneWay}
+use Rattle.fips197.proofs.Equivalent.{Agree}
 use Rattle.sp800_38a.specs.Pieces.{outputOf, after}
 use Rattle.sp800_38a.specs.Modes.{machine, inverts, ivLength, anyLength, chains, Unless, moded, handedOn}
 use Rattle.sp800_38a.specs.declared.Operation.{Operation}
@@ -22,33 +22,33 @@ use Rattle.sp800_38a.proofs.Sixteen.{pieces-16, length-16}
 use Rattle.sp800_38a.proofs.Same.{moded-same, handed-same}
 use Rattle.pieces.specs.Runs.{reach, runOver}
 
--- an operation uses the cipher one way only, so the table and the schedule of that way serve
-forward-only : (t b w v : List ℕ) (nr : ℕ) (o : Operation) → inverts o ≡ false → machine (oneTable t w nr) o ≡ machine (tableCipher t b w v nr) o
-forward-only t b w v nr EcbEncrypt e = refl
-forward-only t b w v nr EcbDecrypt e = absurd (true≢false e)
-forward-only t b w v nr CbcEncrypt e = refl
-forward-only t b w v nr CbcDecrypt e = absurd (true≢false e)
-forward-only t b w v nr CfbEncrypt e = refl
-forward-only t b w v nr CfbDecrypt e = refl
-forward-only t b w v nr Ofb e = refl
+-- an operation uses the cipher one way only, so the schedule of that way serves
+forward-only : (w v : List ℕ) (nr : ℕ) (o : Operation) → inverts o ≡ false → machine (oneWay w nr) o ≡ machine (equivalentCipher w v nr) o
+forward-only w v nr EcbEncrypt e = refl
+forward-only w v nr EcbDecrypt e = absurd (true≢false e)
+forward-only w v nr CbcEncrypt e = refl
+forward-only w v nr CbcDecrypt e = absurd (true≢false e)
+forward-only w v nr CfbEncrypt e = refl
+forward-only w v nr CfbDecrypt e = refl
+forward-only w v nr Ofb e = refl
 
-backward-only : (t b w v : List ℕ) (nr : ℕ) (o : Operation) → inverts o ≡ true → machine (oneTable b v nr) o ≡ machine (tableCipher t b w v nr) o
-backward-only t b w v nr EcbEncrypt e = absurd (true≢false (sym e))
-backward-only t b w v nr EcbDecrypt e = refl
-backward-only t b w v nr CbcEncrypt e = absurd (true≢false (sym e))
-backward-only t b w v nr CbcDecrypt e = refl
-backward-only t b w v nr CfbEncrypt e = absurd (true≢false (sym e))
-backward-only t b w v nr CfbDecrypt e = absurd (true≢false (sym e))
-backward-only t b w v nr Ofb e = absurd (true≢false (sym e))
+backward-only : (w v : List ℕ) (nr : ℕ) (o : Operation) → inverts o ≡ true → machine (oneWay v nr) o ≡ machine (equivalentCipher w v nr) o
+backward-only w v nr EcbEncrypt e = absurd (true≢false (sym e))
+backward-only w v nr EcbDecrypt e = refl
+backward-only w v nr CbcEncrypt e = absurd (true≢false (sym e))
+backward-only w v nr CbcDecrypt e = refl
+backward-only w v nr CfbEncrypt e = absurd (true≢false (sym e))
+backward-only w v nr CfbDecrypt e = absurd (true≢false (sym e))
+backward-only w v nr Ofb e = absurd (true≢false (sym e))
 
-module _ (t b w v : List ℕ) (nr : ℕ) (o : Operation) (iv inp out : List ℕ) where
-  pub through-forward : inverts o ≡ false → runOver (oneTable t w nr) o iv inp out ≡ runOver (tableCipher t b w v nr) o iv inp out
+module _ (w v : List ℕ) (nr : ℕ) (o : Operation) (iv inp out : List ℕ) where
+  pub through-forward : inverts o ≡ false → runOver (oneWay w nr) o iv inp out ≡ runOver (equivalentCipher w v nr) o iv inp out
   unfolding runOver
-  through-forward e = rw (forward-only t b w v nr o e)
+  through-forward e = rw (forward-only w v nr o e)
 
-  pub through-backward : inverts o ≡ true → runOver (oneTable b v nr) o iv inp out ≡ runOver (tableCipher t b w v nr) o iv inp out
+  pub through-backward : inverts o ≡ true → runOver (oneWay v nr) o iv inp out ≡ runOver (equivalentCipher w v nr) o iv inp out
   unfolding runOver
-  through-backward e = rw (backward-only t b w v nr o e)
+  through-backward e = rw (backward-only w v nr o e)
 
 -- any length goes in OFB alone
 pub any-length-ofb : (o : Operation) → anyLength o ≡ true → o ≡ Ofb

@@ -4,14 +4,13 @@ ghost use mathlib.Core.Path.{_≡_};
 ghost use Prim.Native.Nat.{_≤_};
 ghost use lib.ListN.{length};
 ghost use Rattle.octets.specs.Blocks.{_⊕_};
-ghost use Rattle.lookups.specs.Lookups.{oneTable};
+ghost use Rattle.fips197.specs.Equivalent.{oneWay};
 ghost use Rattle.sp800_38a.specs.Pieces.{ranThrough};
 ghost use Rattle.sp800_38a.specs.Modes.{machine};
 ghost use Rattle.sp800_38a.specs.declared.Operation.the-variants.{Ofb};
 
 // What is left of an input after its whole pieces, into as much of the output; where nothing is left, the cipher makes nothing.
 pub fn last_piece(
-    table: &[u32; 256],
     words: &[u32; 60],
     rounds: usize,
     chain: [u8; 16],
@@ -19,12 +18,12 @@ pub fn last_piece(
     output: &mut [u8],
 ) -> [u8; 16]
     requires { ⌜ (length (now output) ≡ length (now input)) × (length (now input) ≤ 16) ⌝ }
-    ensures { λ r. ⌜ (r, now (output .exit)) ≡ ranThrough 16 (machine (oneTable (now (table .entry)) (now (words .entry)) rounds) Ofb) chain (now (input .entry)) (now (output .entry)) ⌝ }
+    ensures { λ r. ⌜ (r, now (output .exit)) ≡ ranThrough 16 (machine (oneWay (now (words .entry)) rounds) Ofb) chain (now (input .entry)) (now (output .entry)) ⌝ }
 {
     if input.len() == 0 {
         return chain;
     }
-    let output_block = encrypt_block(table, words, rounds, chain);
+    let output_block = encrypt_block(words, rounds, chain);
     add(input, output_block, output);
     output_block
 }

@@ -1,5 +1,5 @@
-// Pieces of 16 bytes through an operation of a mode, in OFB a short last one too, with the table and the schedule lent that it looks up in:
-// those of the inverse cipher where it inverts, of the cipher elsewhere.
+// Pieces of 16 bytes through an operation of a mode, in OFB a short last one too, under a schedule that is lent:
+// that of the way back where the operation inverts, of the way forth elsewhere.
 mod last;
 
 use crate::last::last_piece;
@@ -8,13 +8,12 @@ use sp800_38a::Operation;
 use whole_pieces::in_order;
 use whole_pieces::shorter;
 ghost use mathlib.Core.Path.{_≡_};
-ghost use Rattle.lookups.specs.Lookups.{oneTable};
+ghost use Rattle.fips197.specs.Equivalent.{oneWay};
 ghost use Rattle.pieces.specs.Runs.{runOver};
 
 // The pieces that input and output have in common: whole ones, and in OFB a short last one too.
 // The answer is what a piece after them is chained to.
 pub fn run(
-    table: &[u32; 256],
     words: &[u32; 60],
     rounds: usize,
     operation: Operation,
@@ -22,21 +21,14 @@ pub fn run(
     input: &[u8],
     output: &mut [u8],
 ) -> [u8; 16]
-    ensures { λ r. ⌜ (r, now (output .exit)) ≡ runOver (oneTable (now (table .entry)) (now (words .entry)) rounds) operation iv (now (input .entry)) (now (output .entry)) ⌝ }
+    ensures { λ r. ⌜ (r, now (output .exit)) ≡ runOver (oneWay (now (words .entry)) rounds) operation iv (now (input .entry)) (now (output .entry)) ⌝ }
 {
     let end = shorter(input.len(), output.len());
-    let chain = in_order(table, words, rounds, operation, iv, input, output);
+    let chain = in_order(words, rounds, operation, iv, input, output);
     if any_length(operation) {
         let n = end / 16;
         let at = n * 16;
-        return last_piece(
-            table,
-            words,
-            rounds,
-            chain,
-            &input[at..end],
-            &mut output[at..end],
-        );
+        return last_piece(words, rounds, chain, &input[at..end], &mut output[at..end]);
     }
     chain
 }

@@ -8,6 +8,10 @@ use Prim.Native.Nat.{_+_}
 use lib.Dec.{leb}
 use Rattle.blocks.specs.Blocks.{fits, blockPut}
 use Rattle.slices.specs.Slices.{copied}
+use Rattle.schedule.specs.Schedule.{roundCount}
+use Rattle.expansion.specs.Expansion.{expandable, expandedOver}
+use Rattle.fips197.specs.Equivalent.{inverseWords}
+use Rattle.states.specs.Columns.{blockOf}
 use Rattle.field.proofs.double.Reads as double
 use Rattle.field.proofs.product.Reads as product
 use Rattle.logarithms.proofs.logarithm.Reads as logarithm
@@ -26,26 +30,27 @@ use Rattle.words.proofs.rot_three.Reads as rot-three
 use Rattle.words.proofs.sub_word.Reads as sub-word
 use Rattle.mixing.proofs.mix_column.Reads as mix-column
 use Rattle.mixing.proofs.inv_mix_column.Reads as inv-mix-column
-use Rattle.words.proofs.sub_mix_column.Reads as sub-mix-column
-use Rattle.words.proofs.sub_column.Reads as sub-column
-use Rattle.expansion.proofs.expand.Reads as expand
+use Rattle.expansion.proofs.expand_into.Reads as expand-into
 use Rattle.schedule.proofs.KeySchedule.new.Reads as new
+use Rattle.schedule.proofs.schedule_into.Reads as schedule-into
+use Rattle.schedule.proofs.answer_of.Reads as answer-of
 use Rattle.schedule.proofs.is_round_count.Reads as is-round-count
 use Rattle.words.proofs.word_bytes.Reads as word-bytes
 use Rattle.schedule.proofs.RoundKeyNumber.first_word.Reads as first-word
-use Rattle.tables.proofs.forward_table.Reads as forward-table
-use Rattle.tables.proofs.inverse_table.Reads as inverse-table
 use Rattle.states.proofs.load.Reads as load-state
 use Rattle.states.proofs.store.Reads as store-state
-use Rattle.states.proofs.sub_shift_mix.Reads as sub-shift-mix
-use Rattle.states.proofs.sub_shift.Reads as sub-shift
-use Rattle.states.proofs.mirrored.Reads as mirrored
-use Rattle.states.proofs.mix_columns.Reads as mix-columns
+use Rattle.states.proofs.as_columns.Reads as as-columns
 use Rattle.cipher.proofs.encrypt.Reads as encrypt
 use Rattle.cipher.proofs.decrypt.Reads as decrypt
 use Rattle.rounds.proofs.encrypt_block.Reads as encrypt-block
-use Rattle.rounds.proofs.decrypt_block.Reads as decrypt-block
-use Rattle.cipher.proofs.inverse_words.Reads as inverse-words
+use Rattle.rounds.proofs.absorb.Reads as absorb
+use Rattle.aes_rounds_inverse.proofs.decrypt_block.Reads as decrypt-block
+use Rattle.aes_schedule_inverse.proofs.invert.Reads as invert
+use Rattle.aes_schedule_inverse.proofs.inverse_words.Reads as inverse-words
+use Rattle.aes_lookup_forward.proofs.forward_at.Reads as forward-at
+use Rattle.aes_lookup_inverse.proofs.inverse_at.Reads as inverse-at
+use Rattle.aes_lookup_sbox.proofs.sub_at.Reads as sub-at
+use Rattle.aes_lookup_inv_sbox.proofs.inv_sub_at.Reads as inv-sub-at
 
 pub double-asks-nothing : (κs : _) (a : _) → double.Asked κs a
 double-asks-nothing κs a = tt
@@ -125,41 +130,11 @@ inv-mix-column-asks-nothing κs a = tt
 pub inv-mix-column-determined : (κs : _) (a : _) (r r′ : _) (s s′ : _) → inv-mix-column.Post κs a r s → inv-mix-column.Post κs a r′ s′ → r ≡ r′
 inv-mix-column-determined κs a r r′ s s′ p q = p ∙ sym q
 
-pub sub-mix-column-asks-nothing : (κs : _) (a : _) → sub-mix-column.Asked κs a
-sub-mix-column-asks-nothing κs a = tt
-
-pub sub-mix-column-determined : (κs : _) (a : _) (r r′ : _) (s s′ : _) → sub-mix-column.Post κs a r s → sub-mix-column.Post κs a r′ s′ → r ≡ r′
-sub-mix-column-determined κs a r r′ s s′ p q = p ∙ sym q
-
-pub sub-column-asks-nothing : (κs : _) (a : _) → sub-column.Asked κs a
-sub-column-asks-nothing κs a = tt
-
-pub sub-column-determined : (κs : _) (a : _) (r r′ : _) (s s′ : _) → sub-column.Post κs a r s → sub-column.Post κs a r′ s′ → r ≡ r′
-sub-column-determined κs a r r′ s s′ p q = p ∙ sym q
-
-pub expand-asks-nothing : (κs : _) (a : _) → expand.Asked κs a
-expand-asks-nothing κs a = tt
-
-pub expand-determined : (κs : _) (a : _) (r r′ : _) (s s′ : _) → expand.Post κs a r s → expand.Post κs a r′ s′ → r ≡ r′
-expand-determined κs a r r′ s s′ p q = p ∙ sym q
-
 pub new-asks-nothing : (κs : _) (a : _) → new.Asked κs a
 new-asks-nothing κs a = tt
 
 pub new-determined : (κs : _) (a : _) (r r′ : _) (s s′ : _) → new.Post κs a r s → new.Post κs a r′ s′ → r ≡ r′
 new-determined κs a r r′ s s′ p q = p ∙ sym q
-
-pub forward-table-asks-nothing : (κs : _) (a : _) → forward-table.Asked κs a
-forward-table-asks-nothing κs a = tt
-
-pub forward-table-determined : (κs : _) (a : _) (r r′ : _) (s s′ : _) → forward-table.Post κs a r s → forward-table.Post κs a r′ s′ → r ≡ r′
-forward-table-determined κs a r r′ s s′ p q = p ∙ sym q
-
-pub inverse-table-asks-nothing : (κs : _) (a : _) → inverse-table.Asked κs a
-inverse-table-asks-nothing κs a = tt
-
-pub inverse-table-determined : (κs : _) (a : _) (r r′ : _) (s s′ : _) → inverse-table.Post κs a r s → inverse-table.Post κs a r′ s′ → r ≡ r′
-inverse-table-determined κs a r r′ s s′ p q = p ∙ sym q
 
 pub is-round-count-asks-nothing : (κs : _) (a : _) → is-round-count.Asked κs a
 is-round-count-asks-nothing κs a = tt
@@ -178,30 +153,6 @@ store-state-asks-nothing κs a = tt
 
 pub store-state-determined : (κs : _) (a : _) (r r′ : _) (s s′ : _) → store-state.Post κs a r s → store-state.Post κs a r′ s′ → r ≡ r′
 store-state-determined κs a r r′ s s′ p q = p ∙ sym q
-
-pub sub-shift-mix-asks-nothing : (κs : _) (a : _) → sub-shift-mix.Asked κs a
-sub-shift-mix-asks-nothing κs a = tt
-
-pub sub-shift-mix-determined : (κs : _) (a : _) (r r′ : _) (s s′ : _) → sub-shift-mix.Post κs a r s → sub-shift-mix.Post κs a r′ s′ → r ≡ r′
-sub-shift-mix-determined κs a r r′ s s′ p q = p ∙ sym q
-
-pub sub-shift-asks-nothing : (κs : _) (a : _) → sub-shift.Asked κs a
-sub-shift-asks-nothing κs a = tt
-
-pub sub-shift-determined : (κs : _) (a : _) (r r′ : _) (s s′ : _) → sub-shift.Post κs a r s → sub-shift.Post κs a r′ s′ → r ≡ r′
-sub-shift-determined κs a r r′ s s′ p q = p ∙ sym q
-
-pub mirrored-asks-nothing : (κs : _) (a : _) → mirrored.Asked κs a
-mirrored-asks-nothing κs a = tt
-
-pub mirrored-determined : (κs : _) (a : _) (r r′ : _) (s s′ : _) → mirrored.Post κs a r s → mirrored.Post κs a r′ s′ → r ≡ r′
-mirrored-determined κs a r r′ s s′ p q = p ∙ sym q
-
-pub mix-columns-asks-nothing : (κs : _) (a : _) → mix-columns.Asked κs a
-mix-columns-asks-nothing κs a = tt
-
-pub mix-columns-determined : (κs : _) (a : _) (r r′ : _) (s s′ : _) → mix-columns.Post κs a r s → mix-columns.Post κs a r′ s′ → r ≡ r′
-mix-columns-determined κs a r r′ s s′ p q = p ∙ sym q
 
 pub word-bytes-asks-nothing : (κs : _) (a : _) → word-bytes.Asked κs a
 word-bytes-asks-nothing κs a = tt
@@ -239,10 +190,84 @@ decrypt-block-asks-nothing κs a = tt
 pub decrypt-block-determined : (κs : _) (a : _) (r r′ : _) (s s′ : _) → decrypt-block.Post κs a r s → decrypt-block.Post κs a r′ s′ → r ≡ r′
 decrypt-block-determined κs a r r′ s s′ p q = p ∙ sym q
 
+pub answer-of-asks-nothing : (κs : _) (a : _) → answer-of.Asked κs a
+answer-of-asks-nothing κs a = tt
+
+pub answer-of-determined : (κs : _) (a : _) (r r′ : _) (s s′ : _) → answer-of.Post κs a r s → answer-of.Post κs a r′ s′ → r ≡ r′
+answer-of-determined κs a r r′ s s′ p q = p ∙ sym q
+
+pub as-columns-asks-nothing : (κs : _) (a : _) → as-columns.Asked κs a
+as-columns-asks-nothing κs a = tt
+
+-- four columns are known by their block: words of 32 bits with the same bytes are the same
+pub as-columns-determined : (κs : _) (a : _) (r r′ : _) (s s′ : _) → as-columns.Post κs a r s → as-columns.Post κs a r′ s′ → blockOf r ≡ blockOf r′
+as-columns-determined κs a r r′ s s′ p q = p ∙ sym q
+
+pub forward-at-asks-nothing : (κs : _) (a : _) → forward-at.Asked κs a
+forward-at-asks-nothing κs a = tt
+
+pub forward-at-determined : (κs : _) (a : _) (r r′ : _) (s s′ : _) → forward-at.Post κs a r s → forward-at.Post κs a r′ s′ → r ≡ r′
+forward-at-determined κs a r r′ s s′ p q = p ∙ sym q
+
+pub inverse-at-asks-nothing : (κs : _) (a : _) → inverse-at.Asked κs a
+inverse-at-asks-nothing κs a = tt
+
+pub inverse-at-determined : (κs : _) (a : _) (r r′ : _) (s s′ : _) → inverse-at.Post κs a r s → inverse-at.Post κs a r′ s′ → r ≡ r′
+inverse-at-determined κs a r r′ s s′ p q = p ∙ sym q
+
+pub sub-at-asks-nothing : (κs : _) (a : _) → sub-at.Asked κs a
+sub-at-asks-nothing κs a = tt
+
+pub sub-at-determined : (κs : _) (a : _) (r r′ : _) (s s′ : _) → sub-at.Post κs a r s → sub-at.Post κs a r′ s′ → r ≡ r′
+sub-at-determined κs a r r′ s s′ p q = p ∙ sym q
+
+pub inv-sub-at-asks-nothing : (κs : _) (a : _) → inv-sub-at.Asked κs a
+inv-sub-at-asks-nothing κs a = tt
+
+pub inv-sub-at-determined : (κs : _) (a : _) (r r′ : _) (s s′ : _) → inv-sub-at.Post κs a r s → inv-sub-at.Post κs a r′ s′ → r ≡ r′
+inv-sub-at-determined κs a r r′ s s′ p q = p ∙ sym q
+
+pub expand-into-asks-nothing : (κs : _) (a : _) → expand-into.Asked κs a
+expand-into-asks-nothing κs a = tt
+
+pub expand-into-determined : (κs : _) (a : _) (r r′ : _) (s s′ : _) → expand-into.Post κs a r s → expand-into.Post κs a r′ s′ → now (s .1 .1 .1 .1 .0) ≡ now (s′ .1 .1 .1 .1 .0)
+expand-into-determined κs a r r′ s s′ p q = p ∙ sym q
+
+pub expand-into-refused-keeps : (κs : _) (a : _) (r : _) (s : _) → expand-into.Post κs a r s
+    → expandable (length (now (a .1 .0))) (a .1 .1 .0) (a .1 .1 .1 .0) (length (now (a .1 .1 .1 .1 .0))) ≡ false → now (s .1 .1 .1 .1 .0) ≡ now (a .1 .1 .1 .1 .0)
+unfolding expandedOver
+expand-into-refused-keeps κs a r s p e = p ∙ rw e
+
+pub schedule-into-asks-nothing : (κs : _) (a : _) → schedule-into.Asked κs a
+schedule-into-asks-nothing κs a = tt
+
+-- exception: schedule::schedule_into: it writes all 60 words, zeros for a key that is refused, and what was there plays no part
+pub schedule-into-determined : (κs : _) (a : _) (r r′ : _) (s s′ : _) → schedule-into.Post κs a r s → schedule-into.Post κs a r′ s′ → (r ≡ r′) × (now (s .1 .0) ≡ now (s′ .1 .0))
+schedule-into-determined κs a r r′ s s′ p q = (p .0 ∙ sym (q .0), p .1 ∙ sym (q .1))
+
+pub absorb-asks-nothing : (κs : _) (a : _) → absorb.Asked κs a
+absorb-asks-nothing κs a = tt
+
+pub absorb-determined : (κs : _) (a : _) (r r′ : _) (s s′ : _) → absorb.Post κs a r s → absorb.Post κs a r′ s′ → now (s .1 .1 .0) ≡ now (s′ .1 .1 .0)
+absorb-determined κs a r r′ s s′ p q = p ∙ sym q
+
+pub absorb-refused-keeps : (κs : _) (a : _) (r : _) (s : _) → absorb.Post κs a r s → fits (length (now (a .1 .1 .1 .0))) (a .1 .1 .1 .1 .0) ≡ false → now (s .1 .1 .0) ≡ now (a .1 .1 .0)
+absorb-refused-keeps κs a r s p e = p ∙ rw e
+
+pub invert-asks-nothing : (κs : _) (a : _) → invert.Asked κs a
+invert-asks-nothing κs a = tt
+
+pub invert-determined : (κs : _) (a : _) (r r′ : _) (s s′ : _) → invert.Post κs a r s → invert.Post κs a r′ s′ → now (s .0) ≡ now (s′ .0)
+invert-determined κs a r r′ s s′ p q = p ∙ sym q
+
+pub invert-refused-keeps : (κs : _) (a : _) (r : _) (s : _) → invert.Post κs a r s → roundCount (a .1 .0) ≡ false → now (s .0) ≡ now (a .0)
+unfolding inverseWords
+invert-refused-keeps κs a r s p e = p ∙ rw e
+
 pub inverse-words-asks-nothing : (κs : _) (a : _) → inverse-words.Asked κs a
 inverse-words-asks-nothing κs a = tt
 
--- exception: cipher::inverse_words: it refuses nothing, so no memory is kept; it writes all 60 words, and what was there plays no part
+-- exception: aes_schedule_inverse::inverse_words: it refuses nothing and writes all 60 words, and what was there plays no part
 pub inverse-words-determined : (κs : _) (a : _) (r r′ : _) (s s′ : _) → inverse-words.Post κs a r s → inverse-words.Post κs a r′ s′ → now (s .1 .1 .0) ≡ now (s′ .1 .1 .0)
 inverse-words-determined κs a r r′ s s′ p q = p ∙ sym q
 

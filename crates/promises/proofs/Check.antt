@@ -10,10 +10,8 @@ use Rattle.octets.specs.Blocks.{BlockCipher}
 use Rattle.sbox.specs.Sbox.{sBox, invSBox}
 use Rattle.schedule.specs.Schedule.{taken, refused, scheduleOf, keyNumber, roundCount}
 use Rattle.schedule.specs.declared.Expanded.{Expanded}
-use Rattle.tables.specs.Tables.{forwardTable}
 use Rattle.fips197.specs.State.{aes}
 use Rattle.fips197.specs.Cipher.{cipher, invCipher, encryptBlock, decryptBlock, aesOf, standard}
-use Rattle.lookups.specs.Lookups.{oneTable}
 use Rattle.fips197.proofs.Padding.{cipher-padded, inv-cipher-padded}
 use Rattle.fips197.proofs.Aes.{key-lawful}
 use Rattle.sp800_38b.specs.Cmac.{doubled, key1, key2, cmac, cmacBy, SameOutside}
@@ -24,8 +22,7 @@ use Rattle.cmac.specs.declared.Checked.{Checked}
 use Rattle.cmac.specs.declared.Started.{Started}
 use Rattle.sp800_38b.proofs.OnePiece.{one-piece}
 use Rattle.sp800_38b.proofs.Same.{cmac-by}
-use Rattle.cmac.proofs.Under.{cmac-table}
-use Rattle.cmac.proofs.Parts.{running-whole, close-zeros, cmac-zeros, lent-zeros}
+use Rattle.cmac.proofs.Parts.{running-whole, close-zeros, cmac-zeros}
 use Rattle.promises.proofs.Cipher.{KeySize, NoKeySize, sized, unsized, known-rounds, expanded}
 use Rattle.subkeys.proofs.filled.Reads as filled
 use Rattle.subkeys.proofs.key1.Reads as first-subkey
@@ -175,14 +172,12 @@ pub close-of-no-key : (κs : _) (a : _) (r : _) (s : _) → close.Post κs a r s
 close-of-no-key κs a r s p e = p ∙ close-zeros (a .0) e
 
 -- and so is a check made under such a schedule
-pub check-with-of-no-key : (κs : _) (a : _) (r : _) (s : _) → check-with.Post κs a r s → roundCount (a .1 .1 .0) ≡ false → r ≡ replicate 16 0
-check-with-of-no-key κs a r s p e = p ∙ lent-zeros (now (a .0)) (now (a .1 .0)) (a .1 .1 .0) (now (a .1 .1 .1 .0)) e
+pub check-with-of-no-key : (κs : _) (a : _) (r : _) (s : _) → check-with.Post κs a r s → roundCount (a .1 .0) ≡ false → r ≡ replicate 16 0
+check-with-of-no-key κs a r s p e = p ∙ cmac-zeros (now (a .0)) (a .1 .0) (now (a .1 .1 .0)) e
 
--- with the forward table lent, a check made under a schedule is CMAC under AES of that schedule
-pub check-with-is-cmac : (κs : _) (a : _) (r : _) (s : _) → check-with.Post κs a r s → now (a .0) ≡ forwardTable → Bytes (now (a .1 .1 .1 .0))
-    → r ≡ cmac (standard (now (a .1 .0)) (a .1 .1 .0)) (now (a .1 .1 .1 .0))
-check-with-is-cmac κs a r s p e b =
-    p ∙ ap (λ (t : List ℕ). cmac (oneTable t (now (a .1 .0)) (a .1 .1 .0)) (now (a .1 .1 .1 .0))) e ∙ cmac-table (now (a .1 .0)) (a .1 .1 .0) (now (a .1 .1 .1 .0)) b
+-- and under a schedule that a key gives it is CMAC under AES of that schedule
+pub check-with-is-cmac : (κs : _) (a : _) (r : _) (s : _) → check-with.Post κs a r s → r ≡ cmac (standard (now (a .0)) (a .1 .0)) (now (a .1 .1 .0))
+check-with-is-cmac κs a r s p = p
 
 -- the running check is the whole one, for any parts that the message is cut into, none and empty ones too
 pub running-is-whole : (key : List ℕ) (parts : List (List ℕ)) → closeOf (fedParts (startOf key .«record») parts) ≡ checkOf key (joined parts) .check

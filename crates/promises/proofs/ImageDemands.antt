@@ -9,7 +9,7 @@ use lib.Dec.{leb}
 use lib.ListN.{length, getD, take, drop, replicate}
 use Rattle.octets.specs.Octets.{Bytes, Octets, choose, over}
 use Rattle.schedule.specs.Schedule.{keyNumber}
-use Rattle.lookups.specs.Lookups.{tableCipher}
+use Rattle.fips197.specs.Equivalent.{equivalentCipher}
 use Rattle.sp800_38b.specs.Cmac.{SameOutside}
 use Rattle.limits.specs.Marks.{selected}
 use Rattle.reasons.specs.Reasons.{verdictNumber}
@@ -187,12 +187,12 @@ pub open-block-asks-nothing : (κs : _) (a : _) → open-block.Asked κs a
 open-block-asks-nothing κs a = tt
 
 pub open-block-determined : (κs : _) (a : _) (r r′ : _) (s s′ : _) → open-block.Post κs a r s → open-block.Post κs a r′ s′
-    → now (s .1 .1 .1 .1 .1 .1 .0) ≡ now (s′ .1 .1 .1 .1 .1 .1 .0)
+    → now (s .1 .1 .1 .1 .0) ≡ now (s′ .1 .1 .1 .1 .0)
 open-block-determined κs a r r′ s s′ p q = p ∙ sym q
 
 -- where there is no block of 512 bytes, or no room for 480, nothing is written
 pub open-block-refused-keeps : (κs : _) (a : _) (r : _) (s : _) → open-block.Post κs a r s
-    → (isBlock (now (a .1 .1 .1 .1 .1 .0)) && leb 480 (length (now (a .1 .1 .1 .1 .1 .1 .0)))) ≡ false → now (s .1 .1 .1 .1 .1 .1 .0) ≡ now (a .1 .1 .1 .1 .1 .1 .0)
+    → (isBlock (now (a .1 .1 .1 .0)) && leb 480 (length (now (a .1 .1 .1 .1 .0)))) ≡ false → now (s .1 .1 .1 .1 .0) ≡ now (a .1 .1 .1 .1 .0)
 unfolding openedOver
 open-block-refused-keeps κs a r s p e = p ∙ rw e
 
@@ -200,45 +200,45 @@ pub seal-asks-nothing : (κs : _) (a : _) → seal.Asked κs a
 seal-asks-nothing κs a = tt
 
 pub seal-determined : (κs : _) (a : _) (r r′ : _) (s s′ : _) → seal.Post κs a r s → seal.Post κs a r′ s′
-    → now (s .1 .1 .1 .1 .1 .1 .1 .1 .1 .0) ≡ now (s′ .1 .1 .1 .1 .1 .1 .1 .1 .1 .0)
+    → now (s .1 .1 .1 .1 .1 .1 .1 .1 .0) ≡ now (s′ .1 .1 .1 .1 .1 .1 .1 .1 .0)
 seal-determined κs a r r′ s s′ p q = p ∙ sym q
 
 -- where the payload is over 480 bytes, or there is no room for 512, nothing is written
 pub seal-refused-keeps : (κs : _) (a : _) (r : _) (s : _) → seal.Post κs a r s
-    → (leb (length (now (a .1 .1 .1 .1 .1 .1 .1 .1 .0))) 480 && leb 512 (length (now (a .1 .1 .1 .1 .1 .1 .1 .1 .1 .0)))) ≡ false → now (s .1 .1 .1 .1 .1 .1 .1 .1 .1 .0) ≡ now (a .1 .1 .1 .1 .1 .1 .1 .1 .1 .0)
+    → (leb (length (now (a .1 .1 .1 .1 .1 .1 .1 .0))) 480 && leb 512 (length (now (a .1 .1 .1 .1 .1 .1 .1 .1 .0)))) ≡ false → now (s .1 .1 .1 .1 .1 .1 .1 .1 .0) ≡ now (a .1 .1 .1 .1 .1 .1 .1 .1 .0)
 unfolding sealedOver
 seal-refused-keeps κs a r s p e = p ∙ rw e
 
 -- what is no block of 512 bytes has no right check and no zero fill
-pub check-holds-of-blocks-alone : (κs : _) (a : _) (r : _) (s : _) → check-holds.Post κs a r s → (length (now (a .1 .1 .1 .1 .1 .1 .0)) ≡ 512 → ⊥) → r ≡ false
+pub check-holds-of-blocks-alone : (κs : _) (a : _) (r : _) (s : _) → check-holds.Post κs a r s → (length (now (a .1 .1 .1 .1 .1 .0)) ≡ 512 → ⊥) → r ≡ false
 check-holds-of-blocks-alone κs a r s p n =
-    p ∙ sym (checks-none (lentMac (now (a .0)) (now (a .1 .0)) (a .1 .1 .1 .1 .0 .chk) (now (a .1 .1 .0)) (now (a .1 .1 .1 .0))) (now (a .1 .1 .1 .1 .1 .0)) (now (a .1 .1 .1 .1 .1 .1 .0)) (mac-sized (now (a .0)) (now (a .1 .0)) (a .1 .1 .1 .1 .0 .chk) (now (a .1 .1 .0)) (now (a .1 .1 .1 .0))) n (usable (a .1 .1 .1 .1 .0)))
+    p ∙ sym (checks-none (lentMac (now (a .0)) (a .1 .1 .1 .0 .chk) (now (a .1 .0)) (now (a .1 .1 .0))) (now (a .1 .1 .1 .1 .0)) (now (a .1 .1 .1 .1 .1 .0)) (mac-sized (now (a .0)) (a .1 .1 .1 .0 .chk) (now (a .1 .0)) (now (a .1 .1 .0))) n (usable (a .1 .1 .1 .0)))
 
-pub fill-is-zero-of-blocks-alone : (κs : _) (a : _) (r : _) (s : _) → fill-is-zero.Post κs a r s → (length (now (a .1 .1 .1 .1 .1 .0)) ≡ 512 → ⊥) → r ≡ false
+pub fill-is-zero-of-blocks-alone : (κs : _) (a : _) (r : _) (s : _) → fill-is-zero.Post κs a r s → (length (now (a .1 .1 .1 .0)) ≡ 512 → ⊥) → r ≡ false
 fill-is-zero-of-blocks-alone κs a r s p n =
-    p ∙ sym (fill-of-none (tableCipher (now (a .0)) (now (a .1 .0)) (now (a .1 .1 .0)) (now (a .1 .1 .1 .0)) (a .1 .1 .1 .1 .0)) (a .1 .1 .1 .1 .1 .1 .0) (now (a .1 .1 .1 .1 .1 .0)) n)
+    p ∙ sym (fill-of-none (equivalentCipher (now (a .0)) (now (a .1 .0)) (a .1 .1 .0)) (a .1 .1 .1 .1 .0) (now (a .1 .1 .1 .0)) n)
 
 -- ---- demand 2 for one block: the verdict is the first row of the table that holds, and the header is the block's
 
 module _ (κs : _) (a : _) (r : _) (s : _) (p : judge.Post κs a r s) where
   abbrev lent : Keys
-  lent = lentKeys (now (a .0)) (now (a .1 .0)) (now (a .1 .1 .0)) (now (a .1 .1 .1 .0)) (now (a .1 .1 .1 .1 .0)) (now (a .1 .1 .1 .1 .1 .0)) (now (a .1 .1 .1 .1 .1 .1 .0)) (a .1 .1 .1 .1 .1 .1 .1 .0)
+  lent = lentKeys (now (a .0)) (now (a .1 .0)) (now (a .1 .1 .0)) (now (a .1 .1 .1 .0)) (now (a .1 .1 .1 .1 .0)) (a .1 .1 .1 .1 .1 .0)
 
   -- the edition that it is held to
   abbrev held-to : Edition
-  held-to = either (a .1 .1 .1 .1 .1 .1 .1 .1 .0) (headOf (now (a .1 .1 .1 .1 .1 .1 .1 .1 .1 .0)) .reserved)
+  held-to = either (a .1 .1 .1 .1 .1 .1 .0) (headOf (now (a .1 .1 .1 .1 .1 .1 .1 .0)) .reserved)
 
-  pub judge-as-told : Says lent held-to (a .1 .1 .1 .1 .1 .1 .1 .1 .0) (now (a .1 .1 .1 .1 .1 .1 .1 .1 .1 .0)) (r .verdict)
+  pub judge-as-told : Says lent held-to (a .1 .1 .1 .1 .1 .1 .0) (now (a .1 .1 .1 .1 .1 .1 .1 .0)) (r .verdict)
   judge-as-told =
-      subst (Says lent held-to (a .1 .1 .1 .1 .1 .1 .1 .1 .0) (now (a .1 .1 .1 .1 .1 .1 .1 .1 .1 .0)))
-      (sym (verdict-read lent (a .1 .1 .1 .1 .1 .1 .1 .1 .0) (now (a .1 .1 .1 .1 .1 .1 .1 .1 .1 .0)) r p)) (verdict-as-told lent held-to (a .1 .1 .1 .1 .1 .1 .1 .1 .0) (now (a .1 .1 .1 .1 .1 .1 .1 .1 .1 .0)))
+      subst (Says lent held-to (a .1 .1 .1 .1 .1 .1 .0) (now (a .1 .1 .1 .1 .1 .1 .1 .0)))
+      (sym (verdict-read lent (a .1 .1 .1 .1 .1 .1 .0) (now (a .1 .1 .1 .1 .1 .1 .1 .0)) r p)) (verdict-as-told lent held-to (a .1 .1 .1 .1 .1 .1 .0) (now (a .1 .1 .1 .1 .1 .1 .1 .0)))
 
-  pub judge-done : ((q : Reason) → Row lent held-to (a .1 .1 .1 .1 .1 .1 .1 .1 .0) (now (a .1 .1 .1 .1 .1 .1 .1 .1 .1 .0)) q → ⊥) → verdictNumber (r .verdict) ≡ 0
+  pub judge-done : ((q : Reason) → Row lent held-to (a .1 .1 .1 .1 .1 .1 .0) (now (a .1 .1 .1 .1 .1 .1 .1 .0)) q → ⊥) → verdictNumber (r .verdict) ≡ 0
   judge-done n =
-      ap verdictNumber (verdict-read lent (a .1 .1 .1 .1 .1 .1 .1 .1 .0) (now (a .1 .1 .1 .1 .1 .1 .1 .1 .1 .0)) r p ∙ verdict-done lent held-to (a .1 .1 .1 .1 .1 .1 .1 .1 .0) (now (a .1 .1 .1 .1 .1 .1 .1 .1 .1 .0)) n)
+      ap verdictNumber (verdict-read lent (a .1 .1 .1 .1 .1 .1 .0) (now (a .1 .1 .1 .1 .1 .1 .1 .0)) r p ∙ verdict-done lent held-to (a .1 .1 .1 .1 .1 .1 .0) (now (a .1 .1 .1 .1 .1 .1 .1 .0)) n)
 
-  pub judge-reads-the-header : length (now (a .1 .1 .1 .1 .1 .1 .1 .1 .1 .0)) ≡ 512 → r .head ≡ headOf (now (a .1 .1 .1 .1 .1 .1 .1 .1 .1 .0))
-  judge-reads-the-header e = head-read lent (a .1 .1 .1 .1 .1 .1 .1 .1 .0) (now (a .1 .1 .1 .1 .1 .1 .1 .1 .1 .0)) r p e
+  pub judge-reads-the-header : length (now (a .1 .1 .1 .1 .1 .1 .1 .0)) ≡ 512 → r .head ≡ headOf (now (a .1 .1 .1 .1 .1 .1 .1 .0))
+  judge-reads-the-header e = head-read lent (a .1 .1 .1 .1 .1 .1 .0) (now (a .1 .1 .1 .1 .1 .1 .1 .0)) r p e
 
 -- ---- demand 1 for what a turn has done
 

@@ -16,10 +16,9 @@ use Rattle.octets.proofs.Blocks.{append-bytes}
 use Rattle.sbox.specs.Sbox.{sBox}
 use Rattle.schedule.specs.Schedule.{scheduleOf, keyNumber, roundCount}
 use Rattle.fips197.specs.Cipher.{standard, aesOf}
+use Rattle.fips197.specs.Equivalent.{equivalentCipher, inverseWords, oneWay}
+use Rattle.fips197.proofs.Equivalent.{equivalent-agrees}
 use Rattle.fips197.proofs.Aes.{aes-lawful, key-lawful}
-use Rattle.tables.specs.Tables.{forwardTable, inverseTable}
-use Rattle.lookups.specs.Lookups.{oneTable, tableCipher, inverseWords}
-use Rattle.lookups.proofs.Lawful.{lent-agrees}
 use Rattle.sp800_38a.specs.Pieces.{outputOf}
 use Rattle.sp800_38a.specs.Modes.{other, inverts, ivLength, anyLength, chains, Unless, moded, handedOn, inParts, handedAlong, WholeParts}
 use Rattle.sp800_38a.specs.Equations.{Equation, Handed}
@@ -118,13 +117,13 @@ pub in-order-asks-nothing : (κs : _) (a : _) → in-order.Asked κs a
 in-order-asks-nothing κs a = tt
 
 pub in-order-determined : (κs : _) (a : _) (r r′ : _) (s s′ : _) → in-order.Post κs a r s → in-order.Post κs a r′ s′
-    → (r ≡ r′) × (now (s .1 .1 .1 .1 .1 .1 .0) ≡ now (s′ .1 .1 .1 .1 .1 .1 .0))
+    → (r ≡ r′) × (now (s .1 .1 .1 .1 .1 .0) ≡ now (s′ .1 .1 .1 .1 .1 .0))
 in-order-determined κs a r r′ s s′ p q = let e = p ∙ sym q in (ap (λ (x : List ℕ × List ℕ). x .0) e, ap (λ (x : List ℕ × List ℕ). x .1) e)
 
 -- a run through whole pieces refuses nothing; where input and output have none in common it leaves the output as it was
 pub in-order-refused-keeps : (κs : _) (a : _) (r : _) (s : _) → in-order.Post κs a r s
-    → min (length (now (a .1 .1 .1 .1 .1 .0))) (length (now (a .1 .1 .1 .1 .1 .1 .0))) / 16 ≡ 0
-    → now (s .1 .1 .1 .1 .1 .1 .0) ≡ now (a .1 .1 .1 .1 .1 .1 .0)
+    → min (length (now (a .1 .1 .1 .1 .0))) (length (now (a .1 .1 .1 .1 .1 .0))) / 16 ≡ 0
+    → now (s .1 .1 .1 .1 .1 .0) ≡ now (a .1 .1 .1 .1 .1 .0)
 unfolding outputOf
 in-order-refused-keeps κs a r s p e = ap (λ (x : List ℕ × List ℕ). x .1) p ∙ rw e
 
@@ -132,13 +131,13 @@ pub run-asks-nothing : (κs : _) (a : _) → run.Asked κs a
 run-asks-nothing κs a = tt
 
 pub run-determined : (κs : _) (a : _) (r r′ : _) (s s′ : _) → run.Post κs a r s → run.Post κs a r′ s′
-    → (r ≡ r′) × (now (s .1 .1 .1 .1 .1 .1 .0) ≡ now (s′ .1 .1 .1 .1 .1 .1 .0))
+    → (r ≡ r′) × (now (s .1 .1 .1 .1 .1 .0) ≡ now (s′ .1 .1 .1 .1 .1 .0))
 run-determined κs a r r′ s s′ p q = let e = p ∙ sym q in (ap (λ (x : List ℕ × List ℕ). x .0) e, ap (λ (x : List ℕ × List ℕ). x .1) e)
 
 -- a run refuses nothing; where input and output have nothing in common that it takes it leaves the output as it was
 pub run-refused-keeps : (κs : _) (a : _) (r : _) (s : _) → run.Post κs a r s
-    → reach (a .1 .1 .1 .0) (length (now (a .1 .1 .1 .1 .1 .0))) (length (now (a .1 .1 .1 .1 .1 .1 .0))) ≡ 0
-    → now (s .1 .1 .1 .1 .1 .1 .0) ≡ now (a .1 .1 .1 .1 .1 .1 .0)
+    → reach (a .1 .1 .0) (length (now (a .1 .1 .1 .1 .0))) (length (now (a .1 .1 .1 .1 .1 .0))) ≡ 0
+    → now (s .1 .1 .1 .1 .1 .0) ≡ now (a .1 .1 .1 .1 .1 .0)
 unfolding runOver outputOf
 run-refused-keeps κs a r s p e = ap (λ (x : List ℕ × List ℕ). x .1) p ∙ rw e
 
@@ -265,34 +264,34 @@ apply-is-sp-800-38a κs a r s p f bi bs i h =
     (equation 16 (aesOf key) (lawful o key iv inp out bi bs f) (length inp / 16) (zero-lt-suc 15) iv inp bs o (chain o key iv inp out bi bs f)
     (pieces-16 (anyLength o) (length inp) (f .pieces)) i h)
 
--- the table and the schedule that an operation looks up in, for a schedule w of nr rounds
-pub record Lends (o : Operation) (w : List ℕ) (nr : ℕ) (table words : List ℕ) : Type 0 where
-  pub forth : inverts o ≡ false → (table ≡ forwardTable) × (words ≡ w)
-  pub back : inverts o ≡ true → (table ≡ inverseTable) × (words ≡ inverseWords w nr)
+-- the schedule that an operation goes by, for a schedule w of nr rounds
+pub record Lends (o : Operation) (w : List ℕ) (nr : ℕ) (words : List ℕ) : Type 0 where
+  pub forth : inverts o ≡ false → words ≡ w
+  pub back : inverts o ≡ true → words ≡ inverseWords w nr
 
-lent-through : (o : Operation) (w : List ℕ) (nr : ℕ) (table words : List ℕ) → Lends o w nr table words → (iv inp out : List ℕ)
-    → runOver (oneTable table words nr) o iv inp out ≡ runOver (tableCipher forwardTable inverseTable w (inverseWords w nr) nr) o iv inp out
-lent-through o w nr table words l iv inp out = by (inverts o) refl
+lent-through : (o : Operation) (w : List ℕ) (nr : ℕ) (words : List ℕ) → Lends o w nr words → (iv inp out : List ℕ)
+    → runOver (oneWay words nr) o iv inp out ≡ runOver (equivalentCipher w (inverseWords w nr) nr) o iv inp out
+lent-through o w nr words l iv inp out = by (inverts o) refl
   where
-    by : (k : Bool) → inverts o ≡ k → runOver (oneTable table words nr) o iv inp out ≡ runOver (tableCipher forwardTable inverseTable w (inverseWords w nr) nr) o iv inp out
-    by true e = rw (l .back e .0, l .back e .1) (through-backward forwardTable inverseTable w (inverseWords w nr) nr o iv inp out e)
-    by false e = rw (l .forth e .0, l .forth e .1) (through-forward forwardTable inverseTable w (inverseWords w nr) nr o iv inp out e)
+    by : (k : Bool) → inverts o ≡ k → runOver (oneWay words nr) o iv inp out ≡ runOver (equivalentCipher w (inverseWords w nr) nr) o iv inp out
+    by true e = rw (l .back e) (through-backward w (inverseWords w nr) nr o iv inp out e)
+    by false e = rw (l .forth e) (through-forward w (inverseWords w nr) nr o iv inp out e)
 
--- with these lent, a run over an input that the operation takes is the operation under AES; it hands on the chaining value
-pub run-is-the-mode : (κs : _) (a : _) (r : _) (s : _) → run.Post κs a r s → (w : List ℕ) → roundCount (a .1 .1 .0) ≡ true
-    → Lends (a .1 .1 .1 .0) w (a .1 .1 .0) (now (a .0)) (now (a .1 .0)) → ChainOf 16 (a .1 .1 .1 .0) (a .1 .1 .1 .1 .0)
-    → Bytes (now (a .1 .1 .1 .1 .1 .0)) → Takes (a .1 .1 .1 .0) (length (now (a .1 .1 .1 .1 .1 .0))) → length (now (a .1 .1 .1 .1 .1 .0)) ≤ length (now (a .1 .1 .1 .1 .1 .1 .0))
-    → (r ≡ handedOn 16 (standard w (a .1 .1 .0)) (a .1 .1 .1 .0) (a .1 .1 .1 .1 .0) (now (a .1 .1 .1 .1 .1 .0)))
-    × (now (s .1 .1 .1 .1 .1 .1 .0) ≡ over (moded 16 (standard w (a .1 .1 .0)) (a .1 .1 .1 .0) (a .1 .1 .1 .1 .0) (now (a .1 .1 .1 .1 .1 .0))) (now (a .1 .1 .1 .1 .1 .1 .0)))
-run-is-the-mode κs a r s p w known l g b h room =
-    let nr = a .1 .1 .0 in
-    let o = a .1 .1 .1 .0 in
-    let iv = a .1 .1 .1 .1 .0 in
-    let inp = now (a .1 .1 .1 .1 .1 .0) in
-    let out = now (a .1 .1 .1 .1 .1 .1 .0) in
-    let c = tableCipher forwardTable inverseTable w (inverseWords w nr) nr in
-    let q : (r, now (s .1 .1 .1 .1 .1 .1 .0)) ≡ runOver c o iv inp out = p ∙ lent-through o w nr (now (a .0)) (now (a .1 .0)) l iv inp out in
-    let e = q ∙ through-mode c (standard w nr) (lent-agrees w nr) (aes-lawful w nr known) o iv inp g b h out room in
+-- with that one lent, a run over an input that the operation takes is the operation under AES; it hands on the chaining value
+pub run-is-the-mode : (κs : _) (a : _) (r : _) (s : _) → run.Post κs a r s → (w : List ℕ) → length w ≡ 60 → roundCount (a .1 .0) ≡ true
+    → Lends (a .1 .1 .0) w (a .1 .0) (now (a .0)) → ChainOf 16 (a .1 .1 .0) (a .1 .1 .1 .0)
+    → Bytes (now (a .1 .1 .1 .1 .0)) → Takes (a .1 .1 .0) (length (now (a .1 .1 .1 .1 .0))) → length (now (a .1 .1 .1 .1 .0)) ≤ length (now (a .1 .1 .1 .1 .1 .0))
+    → (r ≡ handedOn 16 (standard w (a .1 .0)) (a .1 .1 .0) (a .1 .1 .1 .0) (now (a .1 .1 .1 .1 .0)))
+    × (now (s .1 .1 .1 .1 .1 .0) ≡ over (moded 16 (standard w (a .1 .0)) (a .1 .1 .0) (a .1 .1 .1 .0) (now (a .1 .1 .1 .1 .0))) (now (a .1 .1 .1 .1 .1 .0)))
+run-is-the-mode κs a r s p w size known l g b h room =
+    let nr = a .1 .0 in
+    let o = a .1 .1 .0 in
+    let iv = a .1 .1 .1 .0 in
+    let inp = now (a .1 .1 .1 .1 .0) in
+    let out = now (a .1 .1 .1 .1 .1 .0) in
+    let c = equivalentCipher w (inverseWords w nr) nr in
+    let q : (r, now (s .1 .1 .1 .1 .1 .0)) ≡ runOver c o iv inp out = p ∙ lent-through o w nr (now (a .0)) l iv inp out in
+    let e = q ∙ through-mode c (standard w nr) (equivalent-agrees w size nr) (aes-lawful w nr known) o iv inp g b h out room in
     (ap (λ (x : List ℕ × List ℕ). x .0) e, ap (λ (x : List ℕ × List ℕ). x .1) e)
 
 -- ---- demand 3: every operation is undone by the other way of its mode, on whole pieces; OFB by itself, on every length

@@ -57,12 +57,12 @@ pub passes-asks-nothing : (κs : _) (a : _) → passes.Asked κs a
 passes-asks-nothing κs a = tt
 
 pub passes-determined : (κs : _) (a : _) (r r′ : _) (s s′ : _) → passes.Post κs a r s → passes.Post κs a r′ s′
-    → now (s .1 .1 .1 .0) ≡ now (s′ .1 .1 .1 .0)
+    → now (s .1 .1 .0) ≡ now (s′ .1 .1 .0)
 passes-determined κs a r r′ s s′ p q = p ∙ sym q
 
 -- registers of no size in the rule stay as they are
-pub passes-refused-keeps : (κs : _) (a : _) (r : _) (s : _) → passes.Post κs a r s → wrappedSizeFits (length (now (a .1 .1 .1 .0))) ≡ false
-    → now (s .1 .1 .1 .0) ≡ now (a .1 .1 .1 .0)
+pub passes-refused-keeps : (κs : _) (a : _) (r : _) (s : _) → passes.Post κs a r s → wrappedSizeFits (length (now (a .1 .1 .0))) ≡ false
+    → now (s .1 .1 .0) ≡ now (a .1 .1 .0)
 unfolding passedOver
 passes-refused-keeps κs a r s p e = p ∙ rw e
 
@@ -70,11 +70,11 @@ pub unpasses-asks-nothing : (κs : _) (a : _) → unpasses.Asked κs a
 unpasses-asks-nothing κs a = tt
 
 pub unpasses-determined : (κs : _) (a : _) (r r′ : _) (s s′ : _) → unpasses.Post κs a r s → unpasses.Post κs a r′ s′
-    → now (s .1 .1 .1 .0) ≡ now (s′ .1 .1 .1 .0)
+    → now (s .1 .1 .0) ≡ now (s′ .1 .1 .0)
 unpasses-determined κs a r r′ s s′ p q = p ∙ sym q
 
-pub unpasses-refused-keeps : (κs : _) (a : _) (r : _) (s : _) → unpasses.Post κs a r s → wrappedSizeFits (length (now (a .1 .1 .1 .0))) ≡ false
-    → now (s .1 .1 .1 .0) ≡ now (a .1 .1 .1 .0)
+pub unpasses-refused-keeps : (κs : _) (a : _) (r : _) (s : _) → unpasses.Post κs a r s → wrappedSizeFits (length (now (a .1 .1 .0))) ≡ false
+    → now (s .1 .1 .0) ≡ now (a .1 .1 .0)
 unfolding unpassedOver
 unpasses-refused-keeps κs a r s p e = p ∙ rw e
 

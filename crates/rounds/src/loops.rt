@@ -1,64 +1,111 @@
-// The rounds of FIPS 197 on a state of four columns, each a word, by lookups in a table of words.
-use lookups::Columns;
+// CIPHER of FIPS 197, 5.1, on a state of four words, one a column, each round by lookups.
+use aes_lookup_forward::forward_at;
+use aes_lookup_sbox::sub_at;
 use schedule::RoundKeyNumber;
-use states::mirrored;
-use states::mix_columns;
-use states::sub_shift;
-use states::sub_shift_mix;
+use states::Columns;
+use states::as_columns;
+use states::load;
 ghost use mathlib.Core.Path.{_≡_};
 ghost use Prim.Native.Nat.{_-_, _<_};
-ghost use Rattle.octets.specs.Octets.{entry};
-ghost use Rattle.lookups.specs.Lookups.{addKeyWords, tableRounds, tableForth, tableBack, mixedEach};
-ghost use Rattle.lookups.specs.Lookups as spec;
+ghost use Rattle.octets.specs.Words.{byte, bytesOf};
+ghost use Rattle.sbox.specs.Sbox.{sBox};
+ghost use Rattle.mixing.specs.Mixing.{mixColumn, mixedEntry};
+ghost use Rattle.fips197.specs.State.{aes, addRoundKey, shiftRows, subBytes};
+ghost use Rattle.fips197.specs.Cipher as spec;
+ghost use Rattle.states.specs.Columns.{blockOf};
+ghost use Rattle.aes_lookup_rule.specs.Turned.{turned};
+ghost use Rattle.rounds.specs.Diagonals.{subShifted};
 
-pub fn cipher(table: &[u32; 256], words: &[u32; 60], rounds: usize, s: Columns) -> Columns
+pub fn cipher(words: &[u32; 60], rounds: usize, s: Columns) -> Columns
     requires { ⌜ (0 < rounds) × (rounds < 15) ⌝ }
-    ensures { λ r. ⌜ r ≡ tableForth (entry (now (table .entry))) (now (words .entry)) rounds s ⌝ }
+    ensures { λ r. ⌜ blockOf r ≡ spec.cipher aes sBox (now (words .entry)) rounds (blockOf s) ⌝ }
 {
-    let t = all_but_last(table, words, rounds, s);
-    add_round_key(words, RoundKeyNumber(rounds), sub_shift(table, t))
-}
-
-// The same rounds over the inverse table and the schedule for the way back: with columns 1 and 3 exchanged the rows shift the other way.
-pub fn eq_inv_cipher(table: &[u32; 256], words: &[u32; 60], rounds: usize, s: Columns) -> Columns
-    requires { ⌜ (0 < rounds) × (rounds < 15) ⌝ }
-    ensures { λ r. ⌜ r ≡ tableBack (entry (now (table .entry))) (now (words .entry)) rounds s ⌝ }
-{
-    let t = all_but_last(table, words, rounds, mirrored(s));
-    eq_inv_last(table, words, rounds, t)
+    let last = last_bytes(forth(words, rounds, s));
+    as_columns(add_round_key(words, RoundKeyNumber(rounds), load(last)))
 }
 
 // All rounds but the last.
-fn all_but_last(table: &[u32; 256], words: &[u32; 60], rounds: usize, s: Columns) -> Columns
+fn forth(words: &[u32; 60], rounds: usize, s: Columns) -> [u32; 4]
     requires { ⌜ (0 < rounds) × (rounds < 15) ⌝ }
-    ensures { λ r. ⌜ r ≡ tableRounds (entry (now (table .entry))) (now (words .entry)) (rounds - 1) (addKeyWords (now (words .entry)) 0 s) ⌝ }
+    ensures { λ r. ⌜ bytesOf r ≡ spec.rounds aes sBox (now (words .entry)) (rounds - 1) (addRoundKey aes (now (words .entry)) 0 (blockOf s)) ⌝ }
 {
     let mut t = add_round_key(words, RoundKeyNumber(0), s);
     for n in 1..rounds {
-        t = add_round_key(words, RoundKeyNumber(n), sub_shift_mix(table, t));
+        let u = forth_columns(words, n, t);
+        t = u;
     }
     t
 }
 
-// The last round of the way back, from the state after the others.
-fn eq_inv_last(table: &[u32; 256], words: &[u32; 60], rounds: usize, s: Columns) -> Columns
-    requires { ⌜ rounds < 15 ⌝ }
-    ensures { λ r. ⌜ r ≡ spec.mirrored (addKeyWords (now (words .entry)) rounds (mixedEach (spec.subShiftMix (entry (now (table .entry))) s))) ⌝ }
+// Round n but for the last: each column mixed, with its word of the round key added. Begun at the third column, it takes fewest instructions.
+fn forth_columns(words: &[u32; 60], n: usize, t: [u32; 4]) -> [u32; 4]
+    requires { ⌜ n < 15 ⌝ }
+    ensures { λ r. ⌜ bytesOf r ≡ spec.oneRound aes sBox (now (words .entry)) n (bytesOf t) ⌝ }
 {
-    let u = mix_columns(sub_shift_mix(table, s));
-    mirrored(add_round_key(words, RoundKeyNumber(rounds), u))
+    let first = RoundKeyNumber(n).first_word();
+    let i = first.0;
+    let mut u = [0u32; 4];
+    for m in 0..4 {
+        let j = (m + 2) % 4;
+        u[j] = forth_column(t, j) ^ words[i + j];
+    }
+    u
 }
 
-fn add_round_key(words: &[u32; 60], n: RoundKeyNumber, s: Columns) -> Columns
+// Column j after the shift of rows, substituted and mixed.
+fn forth_column(t: [u32; 4], j: usize) -> u32
+    requires { ⌜ j < 4 ⌝ }
+    ensures { λ r. ⌜ r ≡ mixColumn (subShifted t j) ⌝ }
+{
+    let mut acc = 0u32;
+    for k in 0..4 {
+        let c = t[(j + k) % 4];
+        acc = acc ^ forth_row(c, k);
+    }
+    acc
+}
+
+// What byte k of a word, through the S-box, adds as row k of a column to the mixed column.
+fn forth_row(c: u32, k: usize) -> u32
+    requires { ⌜ k < 4 ⌝ }
+    ensures { λ r. ⌜ r ≡ turned k (mixedEntry sBox (byte k c)) ⌝ }
+{
+    let wide = forward_at((c >> (24 - 8 * k)) % 256 + 256);
+    ((wide >> (8 * k)) % 4294967296) as u32
+}
+
+// ADDROUNDKEY: the columns as an array, with round key n added.
+fn add_round_key(words: &[u32; 60], n: RoundKeyNumber, s: Columns) -> [u32; 4]
     requires { ⌜ n .0 < 15 ⌝ }
-    ensures { λ r. ⌜ r ≡ addKeyWords (now (words .entry)) (n .0) s ⌝ }
+    ensures { λ r. ⌜ bytesOf r ≡ addRoundKey aes (now (words .entry)) (n .0) (blockOf s) ⌝ }
 {
     let first = n.first_word();
     let i = first.0;
-    Columns(
+    [
         s.0 ^ words[i],
         s.1 ^ words[i + 1],
         s.2 ^ words[i + 2],
         s.3 ^ words[i + 3],
-    )
+    ]
+}
+
+// The last round but for its key.
+fn last_bytes(t: [u32; 4]) -> [u8; 16]
+    ensures { λ r. ⌜ r ≡ shiftRows aes (subBytes sBox (bytesOf t)) ⌝ }
+{
+    let mut b = [0u8; 16];
+    for m in 0..16 {
+        let k = m % 4;
+        let c = t[(m / 4 + k) % 4];
+        b[m] = last_row(c, k);
+    }
+    b
+}
+
+// Byte k of a word through the S-box.
+fn last_row(c: u32, k: usize) -> u8
+    requires { ⌜ k < 4 ⌝ }
+    ensures { λ r. ⌜ r ≡ sBox (byte k c) ⌝ }
+{
+    sub_at((c >> (24 - 8 * k)) % 256 + 256)
 }

@@ -1,11 +1,9 @@
 // The pieces of a message that come before its last one, as they go into the chain.
-use blocks::load;
-use blocks::xor;
-use rounds::encrypt_block;
+use rounds::absorb;
 ghost use mathlib.Core.Path.{_≡_};
 ghost use Prim.Native.Nat.{_-_, _*_, _/_, _≤_};
 ghost use lib.ListN.{length};
-ghost use Rattle.lookups.specs.Lookups.{oneTable};
+ghost use Rattle.fips197.specs.Cipher.{standard};
 ghost use Rattle.sp800_38b.specs.Cmac as spec;
 
 // How many pieces of a message of this length come before its last one.
@@ -19,21 +17,13 @@ pub fn before_last(length: usize) -> usize
 }
 
 // The chain after n pieces.
-pub fn chained(
-    table: &[u32; 256],
-    words: &[u32; 60],
-    rounds: usize,
-    chain: [u8; 16],
-    n: usize,
-    part: &[u8],
-) -> [u8; 16]
+pub fn chained(words: &[u32; 60], rounds: usize, chain: [u8; 16], n: usize, part: &[u8]) -> [u8; 16]
     requires { ⌜ n * 16 ≤ length (now part) ⌝ }
-    ensures { λ r. ⌜ r ≡ spec.chained (oneTable (now (table .entry)) (now (words .entry)) rounds) chain n (now (part .entry)) ⌝ }
+    ensures { λ r. ⌜ r ≡ spec.chained (standard (now (words .entry)) rounds) chain n (now (part .entry)) ⌝ }
 {
     let mut value = chain;
     for i in 0..n {
-        let next = encrypt_block(table, words, rounds, xor(value, load(part, i * 16)));
-        value = next;
+        absorb(words, rounds, &mut value, part, i * 16);
     }
     value
 }

@@ -9,7 +9,7 @@ use subkeys::filled;
 use subkeys::last;
 ghost use mathlib.Core.Path.{_≡_};
 ghost use Prim.Native.Nat.{_-_};
-ghost use Rattle.lookups.specs.Lookups.{oneTable};
+ghost use Rattle.fips197.specs.Cipher.{standard};
 ghost use Rattle.running.specs.Running as running;
 
 // The value of the chain, and the bytes that are not in it yet, of which there are up to 16.
@@ -31,8 +31,8 @@ impl Run {
     }
 
     // A full piece goes into the chain only when a byte more comes.
-    pub fn fed(self, table: &[u32; 256], words: &[u32; 60], rounds: usize, part: &[u8]) -> Run
-        ensures { λ r. ⌜ r ≡ running.fed (oneTable (now (table .entry)) (now (words .entry)) rounds) self (now (part .entry)) ⌝ }
+    pub fn fed(self, words: &[u32; 60], rounds: usize, part: &[u8]) -> Run
+        ensures { λ r. ⌜ r ≡ running.fed (standard (now (words .entry)) rounds) self (now (part .entry)) ⌝ }
     {
         let chain = self.chain;
         let held = self.held;
@@ -45,40 +45,33 @@ impl Run {
                 count: 16 - room + part.len(),
             };
         }
-        let next = encrypt_block(table, words, rounds, xor(chain, piece));
-        run_from(table, words, rounds, next, &part[room..])
+        let next = encrypt_block(words, rounds, xor(chain, piece));
+        run_from(words, rounds, next, &part[room..])
     }
 
     // The check of all that was fed, with the subkeys lent: whoever makes many checks makes them once.
     pub fn closed(
         self,
-        table: &[u32; 256],
         words: &[u32; 60],
         rounds: usize,
         key1: &[u8; 16],
         key2: &[u8; 16],
     ) -> [u8; 16]
-        ensures { λ r. ⌜ r ≡ running.closedBy (oneTable (now (table .entry)) (now (words .entry)) rounds) (now (key1 .entry)) (now (key2 .entry)) self ⌝ }
+        ensures { λ r. ⌜ r ≡ running.closedBy (standard (now (words .entry)) rounds) (now (key1 .entry)) (now (key2 .entry)) self ⌝ }
     {
         let chain = self.chain;
         let held = self.held;
         let end = last(key1, key2, held, self.count);
-        encrypt_block(table, words, rounds, xor(chain, end))
+        encrypt_block(words, rounds, xor(chain, end))
     }
 }
 
 // From a value of the chain, with nothing held.
-fn run_from(
-    table: &[u32; 256],
-    words: &[u32; 60],
-    rounds: usize,
-    chain: [u8; 16],
-    part: &[u8],
-) -> Run
-    ensures { λ r. ⌜ r ≡ running.runFrom (oneTable (now (table .entry)) (now (words .entry)) rounds) chain (now (part .entry)) ⌝ }
+fn run_from(words: &[u32; 60], rounds: usize, chain: [u8; 16], part: &[u8]) -> Run
+    ensures { λ r. ⌜ r ≡ running.runFrom (standard (now (words .entry)) rounds) chain (now (part .entry)) ⌝ }
 {
     let n = before_last(part.len());
-    let after = chained(table, words, rounds, chain, n, part);
+    let after = chained(words, rounds, chain, n, part);
     let rest = &part[n * 16..];
     let held = filled([0u8; 16], 0, rest);
     Run {

@@ -1,6 +1,6 @@
 -- The key schedule of a key of FIPS 197, 5.2, over any substitution `sub` of bytes: the standard's is at `sBox`.
 -- Nk is the number of words of the key, Nr that of rounds. Assumes nothing: these are definitions.
-use Prim.Native.Nat.{ℕ, _+_, _*_, min}
+use Prim.Native.Nat.{ℕ, _+_, _*_, _%_}
 use mathlib.Core.Bool.{Bool, _||_}
 use mathlib.Core.List.{List}
 use lib.Dec.{eqb}
@@ -10,6 +10,7 @@ use Rattle.expansion.specs.Expansion.{keyExpansion}
 use Rattle.schedule.specs.declared.KeyAnswer.{KeyAnswer}
 use Rattle.schedule.specs.declared.KeyAnswer.the-variants.{Taken, KeyLength}
 use Rattle.schedule.specs.declared.Expanded.{Expanded}
+use Rattle.schedule.specs.declared.KeySize.{KeySize}
 
 -- 4 (Nr + 1) words, and zeros up to 60
 unfoldable pub taken : (ℕ → ℕ) → List ℕ → ℕ → ℕ → Expanded
@@ -37,6 +38,19 @@ keyNumber KeyLength = 1
 abbrev pub roundCount : ℕ → Bool
 roundCount nr = eqb nr 10 || (eqb nr 12 || eqb nr 14)
 
--- round key n is words 4n to 4n + 3; past the last round key that a schedule has room for, its end
+-- ---- what the code goes by
+
+-- round key n is words 4n to 4n + 3, in 64 bits
 abbrev pub firstWord : ℕ → ℕ
-firstWord n = min (4 * n) 60
+firstWord n = n * 4 % 18446744073709551616
+
+-- Nk and Nr for each length of a key, zeros for any other
+abbrev pub keySize : ℕ → KeySize
+keySize n =
+    choose (eqb n 16) (record { words = 4; rounds = 10 })
+    (choose (eqb n 24) (record { words = 6; rounds = 12 })
+    (choose (eqb n 32) (record { words = 8; rounds = 14 }) (record { words = 0; rounds = 0 })))
+
+-- the answer for a key, by its number of rounds
+abbrev pub answerOf : ℕ → KeyAnswer
+answerOf nr = choose (eqb nr 0) KeyLength Taken

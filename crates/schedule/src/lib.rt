@@ -1,12 +1,9 @@
 // The key schedule of FIPS 197, 5.2: a key of 16, 24 or 32 bytes expanded into round keys.
-use expansion::expand;
+use expansion::expand_into;
 use sbox::table;
 ghost use mathlib.Core.Path.{_≡_};
-ghost use Prim.Native.Nat.{_+_, _*_, _≤_, _<_};
-ghost use lib.ListN.{length};
-ghost use Rattle.octets.specs.Octets.{entry};
 ghost use Rattle.sbox.specs.Sbox.{sBox};
-ghost use Rattle.schedule.specs.Schedule.{taken, scheduleOf, keyNumber, roundCount, firstWord};
+ghost use Rattle.schedule.specs.Schedule.{scheduleOf, keyNumber, roundCount, firstWord, keySize, answerOf};
 
 // Whether the key was taken, or refused for its length.
 pub enum KeyAnswer {
@@ -26,6 +23,12 @@ pub struct Expanded {
     pub schedule: KeySchedule,
 }
 
+// The words of a key, and the rounds that it gives.
+struct KeySize {
+    words: usize,
+    rounds: usize,
+}
+
 // Round keys and words are counted apart.
 pub struct RoundKeyNumber(pub usize);
 
@@ -43,15 +46,11 @@ impl KeyAnswer {
 }
 
 impl RoundKeyNumber {
-    // Four words a round key; past the last that a schedule has room for, the end of its words.
+    // Four words a round key. The shift keeps 64 bits, so it needs no bound, and costs less than a test for one.
     pub fn first_word(self) -> WordNumber
         ensures { λ r. ⌜ r .0 ≡ firstWord (self .0) ⌝ }
     {
-        let n = self.0;
-        if n < 15 {
-            return WordNumber(4 * n);
-        }
-        WordNumber(60)
+        WordNumber(self.0 << 2)
     }
 }
 
@@ -72,30 +71,63 @@ impl KeySchedule {
     pub fn new(key: &[u8]) -> Expanded
         ensures { λ r. ⌜ r ≡ scheduleOf sBox (now (key .entry)) ⌝ }
     {
-        let sbox = table();
-        scheduled(&sbox, key)
+        let mut words = [0u32; 60];
+        let rounds = schedule_into(key, &mut words);
+        Expanded {
+            answer: answer_of(rounds),
+            schedule: KeySchedule { words, rounds },
+        }
     }
 }
 
-// The schedule of a key by its length, with the S-box lent.
-fn scheduled(sbox: &[u8; 256], key: &[u8]) -> Expanded
-    ensures { λ r. ⌜ r ≡ scheduleOf (entry (now (sbox .entry))) (now (key .entry)) ⌝ }
+// The words of the schedule of a key, put where the caller has room: as a result they would be laid out on the stack a second time. The
+// answer is the number of rounds, 0 where the key is refused.
+pub fn schedule_into(key: &[u8], words: &mut [u32; 60]) -> usize
+    ensures { λ r. ⌜ (r ≡ scheduleOf sBox (now (key .entry)) .schedule .rounds) × (now (words .exit) ≡ scheduleOf sBox (now (key .entry)) .schedule .words) ⌝ }
 {
-    if key.len() == 16 {
-        return of_size(sbox, key, KeySchedule::WORDS_16, KeySchedule::ROUNDS_16);
+    *words = [0u32; 60];
+    let size = key_size(key.len());
+    let end = RoundKeyNumber(size.rounds + 1).first_word();
+    let sbox = table();
+    expand_into(&sbox, key, size.words, end.0, words);
+    size.rounds
+}
+
+// What a key of this length is answered with, by the rounds that it gives.
+pub fn answer_of(rounds: usize) -> KeyAnswer
+    ensures { λ r. ⌜ r ≡ answerOf rounds ⌝ }
+{
+    if rounds == 0 {
+        return KeyAnswer::KeyLength;
     }
-    if key.len() == 24 {
-        return of_size(sbox, key, KeySchedule::WORDS_24, KeySchedule::ROUNDS_24);
+    KeyAnswer::Taken
+}
+
+// By the length of a key in bytes; no words and no rounds where no key has it.
+fn key_size(length: usize) -> KeySize
+    ensures { λ r. ⌜ r ≡ keySize length ⌝ }
+{
+    if length == 16 {
+        return KeySize {
+            words: KeySchedule::WORDS_16,
+            rounds: KeySchedule::ROUNDS_16,
+        };
     }
-    if key.len() == 32 {
-        return of_size(sbox, key, KeySchedule::WORDS_32, KeySchedule::ROUNDS_32);
+    if length == 24 {
+        return KeySize {
+            words: KeySchedule::WORDS_24,
+            rounds: KeySchedule::ROUNDS_24,
+        };
     }
-    Expanded {
-        answer: KeyAnswer::KeyLength,
-        schedule: KeySchedule {
-            words: [0u32; 60],
-            rounds: 0,
-        },
+    if length == 32 {
+        return KeySize {
+            words: KeySchedule::WORDS_32,
+            rounds: KeySchedule::ROUNDS_32,
+        };
+    }
+    KeySize {
+        words: 0,
+        rounds: 0,
     }
 }
 
@@ -110,17 +142,4 @@ pub fn is_round_count(n: usize) -> bool
         return true;
     }
     n == KeySchedule::ROUNDS_32
-}
-
-// Of nk words of key, for nr rounds.
-fn of_size(sbox: &[u8; 256], key: &[u8], nk: usize, nr: usize) -> Expanded
-    requires { ⌜ (0 < nk) × ((nk * 4 ≤ length (now key)) × (nr < 15)) ⌝ }
-    ensures { λ r. ⌜ r ≡ taken (entry (now (sbox .entry))) (now (key .entry)) nk nr ⌝ }
-{
-    let end = RoundKeyNumber(nr + 1).first_word();
-    let words = expand(sbox, key, nk, end.0);
-    Expanded {
-        answer: KeyAnswer::Taken,
-        schedule: KeySchedule { words, rounds: nr },
-    }
 }

@@ -1,4 +1,4 @@
-// One block of an image sealed, with the table and schedules lent that its ciphers look up in.
+// One block of an image sealed, with the schedules and the subkeys lent that it is sealed under.
 use blocks::store;
 use checking::check_of;
 use format::Rounds;
@@ -11,14 +11,13 @@ ghost use mathlib.Core.Path.{_≡_};
 ghost use Prim.Native.Nat.{_≤_};
 ghost use lib.ListN.{length};
 ghost use Rattle.octets.specs.Octets.{over};
-ghost use Rattle.lookups.specs.Lookups.{oneTable};
+ghost use Rattle.fips197.specs.Cipher.{standard};
 ghost use Rattle.format.specs.Sealed.{sealed};
 ghost use Rattle.format.specs.Lent.{lentMac, sealedOver};
 
 // Writes the block with this header and payload, whose check covers a tail besides, into the first 512 bytes of an output.
 // Where the payload is over 480 bytes, or there is no room for a block, nothing is written.
 pub fn seal(
-    forth: &[u32; 256],
     ewords: &[u32; 60],
     cwords: &[u32; 60],
     key1: &[u8; 16],
@@ -29,7 +28,7 @@ pub fn seal(
     payload: &[u8],
     output: &mut [u8],
 )
-    ensures { λ _. ⌜ now (output .exit) ≡ sealedOver (oneTable (now (forth .entry)) (now (ewords .entry)) (rounds .enc)) (lentMac (now (forth .entry)) (now (cwords .entry)) (rounds .chk) (now (key1 .entry)) (now (key2 .entry))) (now (tail .entry)) head (now (payload .entry)) (now (output .entry)) ⌝ }
+    ensures { λ _. ⌜ now (output .exit) ≡ sealedOver (standard (now (ewords .entry)) (rounds .enc)) (lentMac (now (cwords .entry)) (rounds .chk) (now (key1 .entry)) (now (key2 .entry))) (now (tail .entry)) head (now (payload .entry)) (now (output .entry)) ⌝ }
 {
     if payload.len() > 480 {
         return;
@@ -38,7 +37,6 @@ pub fn seal(
         return;
     }
     seal_into(
-        forth,
         ewords,
         cwords,
         key1,
@@ -53,7 +51,6 @@ pub fn seal(
 
 // Each part where it goes, and the check over what was written.
 fn seal_into(
-    forth: &[u32; 256],
     ewords: &[u32; 60],
     cwords: &[u32; 60],
     key1: &[u8; 16],
@@ -65,15 +62,14 @@ fn seal_into(
     output: &mut [u8],
 )
     requires { ⌜ (length (now payload) ≤ 480) × (512 ≤ length (now output)) ⌝ }
-    ensures { λ _. ⌜ now (output .exit) ≡ over (sealed (oneTable (now (forth .entry)) (now (ewords .entry)) (rounds .enc)) (lentMac (now (forth .entry)) (now (cwords .entry)) (rounds .chk) (now (key1 .entry)) (now (key2 .entry))) (now (tail .entry)) head (now (payload .entry))) (now (output .entry)) ⌝ }
+    ensures { λ _. ⌜ now (output .exit) ≡ over (sealed (standard (now (ewords .entry)) (rounds .enc)) (lentMac (now (cwords .entry)) (rounds .chk) (now (key1 .entry)) (now (key2 .entry))) (now (tail .entry)) head (now (payload .entry))) (now (output .entry)) ⌝ }
 {
     let first = head_bytes(head);
-    let iv = encrypt_block(forth, ewords, rounds.enc, first);
+    let iv = encrypt_block(ewords, rounds.enc, first);
     let mut plain = [0u8; 480];
     copy(payload, &mut plain, 0);
     store(output, 0, first);
     pieces::run(
-        forth,
         ewords,
         rounds.enc,
         Operation::CbcEncrypt,
@@ -81,6 +77,6 @@ fn seal_into(
         &plain,
         &mut output[16..496],
     );
-    let made = check_of(forth, cwords, key1, key2, rounds.chk, &output[0..496], tail);
+    let made = check_of(cwords, key1, key2, rounds.chk, &output[0..496], tail);
     store(output, 496, made);
 }

@@ -1,15 +1,12 @@
-// A state of four columns, each a word: a block loaded and stored, and the steps of a round of FIPS 197 by lookups in a table of words.
-use lookups::Columns;
-use mixing::mix_column;
+// A state of FIPS 197 as four columns, each a word: a block loaded and stored.
 use words::join;
-use words::sub_column;
-use words::sub_mix_column;
 use words::word_bytes;
 ghost use mathlib.Core.Path.{_≡_};
-ghost use Rattle.octets.specs.Octets.{entry};
-ghost use Rattle.lookups.specs.Columns.{blockOf, columnsOf};
-ghost use Rattle.lookups.specs.Lookups.{subShift, mixedEach};
-ghost use Rattle.lookups.specs.Lookups as spec;
+ghost use Rattle.octets.specs.Words.{bytesOf};
+ghost use Rattle.states.specs.Columns.{blockOf, columnsOf};
+
+// Each column is a word, its first byte the highest.
+pub struct Columns(pub u32, pub u32, pub u32, pub u32);
 
 pub fn load(block: [u8; 16]) -> Columns
     ensures { λ r. ⌜ r ≡ columnsOf block ⌝ }
@@ -49,44 +46,9 @@ pub fn store(s: Columns) -> [u8; 16]
     ]
 }
 
-// SUBBYTES, SHIFTROWS and MIXCOLUMNS at once (sub_bytes, shift_rows, mix_columns): each column takes its four bytes from the columns
-// that the shift brings there, substituted and mixed on the way.
-pub fn sub_shift_mix(table: &[u32; 256], s: Columns) -> Columns
-    ensures { λ r. ⌜ r ≡ spec.subShiftMix (entry (now (table .entry))) s ⌝ }
+// Four words as columns.
+pub fn as_columns(t: [u32; 4]) -> Columns
+    ensures { λ r. ⌜ blockOf r ≡ bytesOf t ⌝ }
 {
-    Columns(
-        sub_mix_column(table, s.0, s.1, s.2, s.3),
-        sub_mix_column(table, s.1, s.2, s.3, s.0),
-        sub_mix_column(table, s.2, s.3, s.0, s.1),
-        sub_mix_column(table, s.3, s.0, s.1, s.2),
-    )
-}
-
-// SUBBYTES and SHIFTROWS alone.
-pub fn sub_shift(table: &[u32; 256], s: Columns) -> Columns
-    ensures { λ r. ⌜ r ≡ subShift (entry (now (table .entry))) s ⌝ }
-{
-    Columns(
-        sub_column(table, s.0, s.1, s.2, s.3),
-        sub_column(table, s.1, s.2, s.3, s.0),
-        sub_column(table, s.2, s.3, s.0, s.1),
-        sub_column(table, s.3, s.0, s.1, s.2),
-    )
-}
-
-pub fn mirrored(s: Columns) -> Columns
-    ensures { λ r. ⌜ r ≡ spec.mirrored s ⌝ }
-{
-    Columns(s.0, s.3, s.2, s.1)
-}
-
-pub fn mix_columns(s: Columns) -> Columns
-    ensures { λ r. ⌜ r ≡ mixedEach s ⌝ }
-{
-    Columns(
-        mix_column(s.0),
-        mix_column(s.1),
-        mix_column(s.2),
-        mix_column(s.3),
-    )
+    Columns(t[0], t[1], t[2], t[3])
 }

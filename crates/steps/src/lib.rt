@@ -1,11 +1,11 @@
-// One piece of 16 bytes through an operation of a mode, with the table and the schedule lent that it looks up in:
-// those of the inverse cipher where it inverts, of the cipher elsewhere.
+// One piece of 16 bytes through an operation of a mode, under a schedule that is lent:
+// that of the way back where the operation inverts, of the way forth elsewhere.
+use aes_rounds_inverse::decrypt_block;
 use blocks::xor;
-use rounds::decrypt_block;
 use rounds::encrypt_block;
 use sp800_38a::Operation;
 ghost use mathlib.Core.Path.{_≡_};
-ghost use Rattle.lookups.specs.Lookups.{oneTable};
+ghost use Rattle.fips197.specs.Equivalent.{oneWay};
 ghost use Rattle.sp800_38a.specs.Modes.{machine};
 ghost use Rattle.steps.specs.Step.{stepOf};
 
@@ -17,37 +17,36 @@ pub struct Stepped {
 
 // SP 800-38A's equations, an operation each.
 pub fn step(
-    table: &[u32; 256],
     words: &[u32; 60],
     rounds: usize,
     operation: Operation,
     chain: [u8; 16],
     piece: [u8; 16],
 ) -> Stepped
-    ensures { λ r. ⌜ r ≡ stepOf (machine (oneTable (now (table .entry)) (now (words .entry)) rounds) operation) chain piece ⌝ }
+    ensures { λ r. ⌜ r ≡ stepOf (machine (oneWay (now (words .entry)) rounds) operation) chain piece ⌝ }
 {
     match operation {
         Operation::EcbEncrypt => {
-            let out = encrypt_block(table, words, rounds, piece);
+            let out = encrypt_block(words, rounds, piece);
             Stepped { out, next: chain }
         }
         Operation::EcbDecrypt => {
-            let out = decrypt_block(table, words, rounds, piece);
+            let out = decrypt_block(words, rounds, piece);
             Stepped { out, next: chain }
         }
         Operation::CbcEncrypt => {
-            let block = encrypt_block(table, words, rounds, xor(piece, chain));
+            let block = encrypt_block(words, rounds, xor(piece, chain));
             Stepped {
                 out: block,
                 next: block,
             }
         }
         Operation::CbcDecrypt => {
-            let out = xor(decrypt_block(table, words, rounds, piece), chain);
+            let out = xor(decrypt_block(words, rounds, piece), chain);
             Stepped { out, next: piece }
         }
         Operation::CfbEncrypt => {
-            let key_stream = encrypt_block(table, words, rounds, chain);
+            let key_stream = encrypt_block(words, rounds, chain);
             let segment = xor(piece, key_stream);
             Stepped {
                 out: segment,
@@ -55,11 +54,11 @@ pub fn step(
             }
         }
         Operation::CfbDecrypt => {
-            let out = xor(piece, encrypt_block(table, words, rounds, chain));
+            let out = xor(piece, encrypt_block(words, rounds, chain));
             Stepped { out, next: piece }
         }
         Operation::Ofb => {
-            let output_block = encrypt_block(table, words, rounds, chain);
+            let output_block = encrypt_block(words, rounds, chain);
             let out = xor(piece, output_block);
             Stepped {
                 out,

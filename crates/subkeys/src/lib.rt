@@ -10,7 +10,7 @@ ghost use Prim.Native.Nat.{_-_};
 ghost use lib.ListN.{getD, take};
 ghost use lib.Dec.{ltb};
 ghost use Rattle.octets.specs.Octets.{choose, padTo};
-ghost use Rattle.lookups.specs.Lookups.{oneTable};
+ghost use Rattle.fips197.specs.Cipher.{standard};
 ghost use Rattle.sp800_38b.specs.Cmac as spec;
 
 // The bytes held, then those of the part, as many as 16 bytes have room for, then zeros.
@@ -25,10 +25,10 @@ pub fn filled(held: [u8; 16], count: usize, part: &[u8]) -> [u8; 16]
 }
 
 // K1.
-pub fn key1(table: &[u32; 256], words: &[u32; 60], rounds: usize) -> [u8; 16]
-    ensures { λ r. ⌜ r ≡ spec.key1 (oneTable (now (table .entry)) (now (words .entry)) rounds) ⌝ }
+pub fn key1(words: &[u32; 60], rounds: usize) -> [u8; 16]
+    ensures { λ r. ⌜ r ≡ spec.key1 (standard (now (words .entry)) rounds) ⌝ }
 {
-    doubled(encrypt_block(table, words, rounds, [0u8; 16]))
+    doubled(encrypt_block(words, rounds, [0u8; 16]))
 }
 
 // K2, from K1.

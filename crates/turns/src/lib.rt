@@ -1,13 +1,11 @@
 // A turn of a reader over the blocks lent to it, up to the first that is refused, under two schedules that are lent.
+use aes_schedule_inverse::inverse_words;
 use blocks::load;
-use cipher::inverse_words;
 use format::Rounds;
 use judging::judge;
 use opening::open_block;
 use progress::Progress;
 use reasons::Verdict;
-use tables::forward_table;
-use tables::inverse_table;
 use tally::BlocksRead;
 use tally::Stop;
 use tally::blocks_read;
@@ -57,7 +55,7 @@ fn smaller(a: usize, b: usize) -> usize
     if a < b { a } else { b }
 }
 
-// The blocks of a turn that has passed its own tests: tables and subkeys are made once, and lent.
+// The blocks of a turn that has passed its own tests: the schedule for the way back and the subkeys are made once, and lent.
 fn read_under(
     ewords: &[u32; 60],
     cwords: &[u32; 60],
@@ -73,13 +71,9 @@ fn read_under(
 {
     let mut dwords = [0u32; 60];
     inverse_words(ewords, rounds.enc, &mut dwords);
-    let forth = forward_table();
-    let back = inverse_table();
-    let key1 = subkeys::key1(&forth, cwords, rounds.chk);
+    let key1 = subkeys::key1(cwords, rounds.chk);
     let key2 = subkeys::key2(key1);
     read_blocks(
-        &forth,
-        &back,
         ewords,
         &dwords,
         cwords,
@@ -95,8 +89,6 @@ fn read_under(
 
 // At most k blocks, up to the first that is refused.
 fn read_blocks(
-    forth: &[u32; 256],
-    back: &[u32; 256],
     ewords: &[u32; 60],
     dwords: &[u32; 60],
     cwords: &[u32; 60],
@@ -109,16 +101,14 @@ fn read_blocks(
     output: &mut [u8],
 ) -> BlocksRead
     requires { ⌜ (k * 512 ≤ length (now blocks)) × (k * 480 ≤ length (now output)) × (k ≤ 128) ⌝ }
-    ensures answer { λ r. ⌜ r ≡ spec.blocksRead (spec.readBlocks (ofBoth (lentKeys (now (forth .entry)) (now (back .entry)) (now (ewords .entry)) (now (dwords .entry)) (now (cwords .entry)) (now (key1 .entry)) (now (key2 .entry)) rounds)) progress (spec.cut k (now (blocks .entry)))) ⌝ }
-    ensures handed { λ _. ⌜ now (output .exit) ≡ over (spec.readBlocks (ofBoth (lentKeys (now (forth .entry)) (now (back .entry)) (now (ewords .entry)) (now (dwords .entry)) (now (cwords .entry)) (now (key1 .entry)) (now (key2 .entry)) rounds)) progress (spec.cut k (now (blocks .entry))) .out) (now (output .entry)) ⌝ }
+    ensures answer { λ r. ⌜ r ≡ spec.blocksRead (spec.readBlocks (ofBoth (lentKeys (now (ewords .entry)) (now (dwords .entry)) (now (cwords .entry)) (now (key1 .entry)) (now (key2 .entry)) rounds)) progress (spec.cut k (now (blocks .entry)))) ⌝ }
+    ensures handed { λ _. ⌜ now (output .exit) ≡ over (spec.readBlocks (ofBoth (lentKeys (now (ewords .entry)) (now (dwords .entry)) (now (cwords .entry)) (now (key1 .entry)) (now (key2 .entry)) rounds)) progress (spec.cut k (now (blocks .entry))) .out) (now (output .entry)) ⌝ }
 {
     let mut done = blocks_read(progress, 0, 0, Stop::End);
     while goes_on(done, k) {
         let at = done.accepted * 512;
         let to = done.accepted * 480;
         let next = read_block(
-            forth,
-            back,
             ewords,
             dwords,
             cwords,
@@ -136,8 +126,6 @@ fn read_blocks(
 
 // One block more. Accepted, it is opened into its part of the output.
 fn read_block(
-    forth: &[u32; 256],
-    back: &[u32; 256],
     ewords: &[u32; 60],
     dwords: &[u32; 60],
     cwords: &[u32; 60],
@@ -149,12 +137,10 @@ fn read_block(
     part: &mut [u8],
 ) -> BlocksRead
     requires { ⌜ (length (now block) ≡ 512) × (length (now part) ≡ 480) ⌝ }
-    ensures answer { λ r. ⌜ r ≡ stepped (ofBoth (lentKeys (now (forth .entry)) (now (back .entry)) (now (ewords .entry)) (now (dwords .entry)) (now (cwords .entry)) (now (key1 .entry)) (now (key2 .entry)) rounds) .verdict (done .progress) (now (block .entry))) done (headOf (now (block .entry))) (drop checkAt (now (block .entry))) ⌝ }
-    ensures handed { λ _. ⌜ now (part .exit) ≡ spec.partAfter (ofBoth (lentKeys (now (forth .entry)) (now (back .entry)) (now (ewords .entry)) (now (dwords .entry)) (now (cwords .entry)) (now (key1 .entry)) (now (key2 .entry)) rounds) .verdict (done .progress) (now (block .entry))) (ofBoth (lentKeys (now (forth .entry)) (now (back .entry)) (now (ewords .entry)) (now (dwords .entry)) (now (cwords .entry)) (now (key1 .entry)) (now (key2 .entry)) rounds) .plain (now (block .entry))) (now (part .entry)) ⌝ }
+    ensures answer { λ r. ⌜ r ≡ stepped (ofBoth (lentKeys (now (ewords .entry)) (now (dwords .entry)) (now (cwords .entry)) (now (key1 .entry)) (now (key2 .entry)) rounds) .verdict (done .progress) (now (block .entry))) done (headOf (now (block .entry))) (drop checkAt (now (block .entry))) ⌝ }
+    ensures handed { λ _. ⌜ now (part .exit) ≡ spec.partAfter (ofBoth (lentKeys (now (ewords .entry)) (now (dwords .entry)) (now (cwords .entry)) (now (key1 .entry)) (now (key2 .entry)) rounds) .verdict (done .progress) (now (block .entry))) (ofBoth (lentKeys (now (ewords .entry)) (now (dwords .entry)) (now (cwords .entry)) (now (key1 .entry)) (now (key2 .entry)) rounds) .plain (now (block .entry))) (now (part .entry)) ⌝ }
 {
     let judged = judge(
-        forth,
-        back,
         ewords,
         dwords,
         cwords,
@@ -167,7 +153,7 @@ fn read_block(
     let verdict = judged.verdict;
     let next = step(done, judged, load(block, 496));
     if let Verdict::Accepted = verdict {
-        open_block(forth, back, ewords, dwords, rounds.enc, block, part);
+        open_block(ewords, dwords, rounds.enc, block, part);
     }
     next
 }

@@ -1,18 +1,22 @@
-// Whole pieces of 16 bytes through an operation of a mode, one after the other, with the table and the schedule lent that it looks up in:
-// those of the inverse cipher where it inverts, of the cipher elsewhere.
+// Whole pieces of 16 bytes through an operation of a mode, one after the other, under a schedule that is lent:
+// that of the way back where the operation inverts, of the way forth elsewhere.
+use aes_rounds_inverse::decrypt_block;
 use blocks::load;
 use blocks::store;
+use blocks::xor;
 use sp800_38a::Operation;
 use steps::step;
 ghost use mathlib.Core.Path.{_≡_};
-ghost use Prim.Native.Nat.{min};
-ghost use Rattle.lookups.specs.Lookups.{oneTable};
+ghost use Prim.Native.Nat.{_*_, _≤_, min};
+ghost use lib.ListN.{length};
+ghost use Rattle.sp800_38a.specs.Pieces.{ran};
+ghost use Rattle.sp800_38a.specs.declared.Operation.the-variants.{CbcDecrypt};
+ghost use Rattle.fips197.specs.Equivalent.{oneWay};
 ghost use Rattle.sp800_38a.specs.Modes.{machine};
 ghost use Rattle.whole_pieces.specs.Whole.{ranWhole};
 
 // The whole pieces that input and output both have. The answer is what a piece after them is chained to.
 pub fn in_order(
-    table: &[u32; 256],
     words: &[u32; 60],
     rounds: usize,
     operation: Operation,
@@ -20,17 +24,45 @@ pub fn in_order(
     input: &[u8],
     output: &mut [u8],
 ) -> [u8; 16]
-    ensures { λ r. ⌜ (r, now (output .exit)) ≡ ranWhole (machine (oneTable (now (table .entry)) (now (words .entry)) rounds) operation) iv (now (input .entry)) (now (output .entry)) ⌝ }
+    ensures { λ r. ⌜ (r, now (output .exit)) ≡ ranWhole (machine (oneWay (now (words .entry)) rounds) operation) iv (now (input .entry)) (now (output .entry)) ⌝ }
 {
     let both = shorter(input.len(), output.len());
     let n = both / 16;
+    if let Operation::CbcDecrypt = operation {
+        return opened(words, rounds, iv, n, input, output);
+    }
     let mut chain = iv;
     for i in 0..n {
-        let s = step(table, words, rounds, operation, chain, load(input, i * 16));
+        let s = step(words, rounds, operation, chain, load(input, i * 16));
         let out = s.out;
         let next = s.next;
         store(output, i * 16, out);
         chain = next;
+    }
+    chain
+}
+
+// Pieces decrypted in CBC: what a piece is chained to is the piece before it, as it came.
+fn opened(
+    words: &[u32; 60],
+    rounds: usize,
+    iv: [u8; 16],
+    n: usize,
+    input: &[u8],
+    output: &mut [u8],
+) -> [u8; 16]
+    requires { ⌜ (n * 16 ≤ length (now input)) × (n * 16 ≤ length (now output)) ⌝ }
+    ensures { λ r. ⌜ (r, now (output .exit)) ≡ ran 16 (machine (oneWay (now (words .entry)) rounds) CbcDecrypt) iv n (now (input .entry)) (now (output .entry)) ⌝ }
+{
+    let mut chain = iv;
+    for i in 0..n {
+        let piece = load(input, i * 16);
+        store(
+            output,
+            i * 16,
+            xor(decrypt_block(words, rounds, piece), chain),
+        );
+        chain = piece;
     }
     chain
 }

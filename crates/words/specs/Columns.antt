@@ -36,7 +36,3 @@ subWord sub x = diagonal sub x x x x
 -- byte 0 of a, byte 1 of b, byte 2 of c and byte 3 of d looked up in the table t, each entry turned to its byte's place, added up
 unfoldable pub subMixColumn : (ℕ → ℕ) → ℕ → ℕ → ℕ → ℕ → ℕ
 subMixColumn t a b c d = xor (xor (t (byte 0 a)) (rotThree (t (byte 1 b)))) (xor (rotTwo (t (byte 2 c))) (rotWord (t (byte 3 d))))
-
--- the third byte of an entry: in a mixed table what was substituted, since the matrix of MIXCOLUMNS has 1 in the third row of its first column
-abbrev pub subByte : (ℕ → ℕ) → ℕ → ℕ
-subByte t x = byte 2 (t x)

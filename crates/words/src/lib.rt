@@ -1,11 +1,10 @@
-// Words of four bytes in one u32, the first byte highest: made of bytes, rotated, and substituted or looked up byte by byte.
+// Words of four bytes in one u32, the first byte highest: made of bytes, rotated, and substituted byte by byte.
 ghost use mathlib.Core.Path.{_≡_};
 ghost use Prim.Native.Nat.{_<_};
 ghost use mathlib.Core.List.{[], _∷_};
-ghost use Rattle.octets.specs.Words.{word, bytesOf};
+ghost use Rattle.octets.specs.Words.{word, byte, bytesOf};
 ghost use Rattle.octets.specs.Octets.{entry};
-ghost use Rattle.words.specs.Columns.{rotWord, rotTwo, rotThree, diagonal, IsDiagonal, subByte};
-ghost use Rattle.words.specs.Columns as spec;
+ghost use Rattle.words.specs.Columns.{rotWord, rotTwo, rotThree, IsDiagonal};
 
 pub fn join(a: u8, b: u8, c: u8, d: u8) -> u32
     ensures { λ r. ⌜ r ≡ word a b c d ⌝ }
@@ -17,12 +16,20 @@ pub fn join(a: u8, b: u8, c: u8, d: u8) -> u32
 pub fn word_bytes(x: u32) -> [u8; 4]
     ensures { λ r. ⌜ r ≡ bytesOf (x ∷ []) ⌝ }
 {
+    let y = reversed(x);
     [
-        (x / 16777216 % 256) as u8,
-        (x / 65536 % 256) as u8,
-        (x / 256 % 256) as u8,
-        (x % 256) as u8,
+        (y % 256) as u8,
+        (y / 256 % 256) as u8,
+        (y / 65536 % 256) as u8,
+        (y / 16777216 % 256) as u8,
     ]
+}
+
+// The word with its bytes in the other order: of it, a store of four bytes is one store of a word.
+fn reversed(x: u32) -> u32
+    ensures { λ r. ⌜ r ≡ word (byte 3 x) (byte 2 x) (byte 1 x) (byte 0 x) ⌝ }
+{
+    packed(x % 256, x / 256 % 256, x / 65536 % 256, x / 16777216 % 256)
 }
 
 pub fn rot_word(x: u32) -> u32
@@ -54,43 +61,6 @@ pub fn sub_word(table: &[u8; 256], x: u32) -> u32
         looked_up(table, x / 256 % 256),
         looked_up(table, x % 256),
     )
-}
-
-// Byte 0 of a, byte 1 of b, byte 2 of c and byte 3 of d, each looked up and turned to its place: over a mixed table, a column of a round.
-pub fn sub_mix_column(table: &[u32; 256], a: u32, b: u32, c: u32, d: u32) -> u32
-    ensures { λ r. ⌜ r ≡ spec.subMixColumn (entry (now (table .entry))) a b c d ⌝ }
-{
-    let p = word_at(table, a / 16777216 % 256);
-    let q = rot_three(word_at(table, b / 65536 % 256));
-    let u = rot_two(word_at(table, c / 256 % 256));
-    let v = rot_word(word_at(table, d % 256));
-    (p ^ q) ^ (u ^ v)
-}
-
-// The same four bytes only substituted, as the table of the mixing has them.
-pub fn sub_column(table: &[u32; 256], a: u32, b: u32, c: u32, d: u32) -> u32
-    ensures { λ r. ⌜ r ≡ diagonal (subByte (entry (now (table .entry)))) a b c d ⌝ }
-{
-    packed(
-        middle_at(table, a / 16777216 % 256),
-        middle_at(table, b / 65536 % 256),
-        middle_at(table, c / 256 % 256),
-        middle_at(table, d % 256),
-    )
-}
-
-fn word_at(table: &[u32; 256], x: u32) -> u32
-    requires { ⌜ x < 256 ⌝ }
-    ensures { λ r. ⌜ r ≡ entry (now (table .entry)) x ⌝ }
-{
-    table[x as usize]
-}
-
-fn middle_at(table: &[u32; 256], x: u32) -> u32
-    requires { ⌜ x < 256 ⌝ }
-    ensures { λ r. ⌜ (r ≡ subByte (entry (now (table .entry))) x) × (r < 256) ⌝ }
-{
-    table[x as usize] / 256 % 256
 }
 
 fn looked_up(table: &[u8; 256], x: u32) -> u32

@@ -13,7 +13,7 @@ use Rattle.rfc3394.specs.Wrap.{initial, register, passes, wrapped, unwrapped}
 use Rattle.registers.specs.Registers.{passedOver, unpassedOver}
 use Rattle.registers.proofs.Places.{drop-past}
 use Rattle.registers.proofs.Sizes.{passed-is, unpassed-is}
-use Rattle.wrap.specs.Lent.{openedOver}
+use Rattle.wrap.specs.Unwrapping.{openedOver}
 use Rattle.wrap.specs.Calls.{opening}
 use Rattle.wrap_answers.specs.declared.WrapAnswer.the-variants.{WrapDone, WrongInitial}
 

@@ -14,17 +14,17 @@ use Rattle.octets.specs.Blocks.{Lawful}
 use Rattle.sbox.specs.Sbox.{sBox}
 use Rattle.schedule.specs.Schedule.{scheduleOf, keyNumber}
 use Rattle.schedule.specs.declared.Expanded.{Expanded}
-use Rattle.fips197.specs.Cipher.{aesOf}
-use Rattle.lookups.specs.Lookups.{inverseWords, oneTable}
-use Rattle.tables.specs.Tables.{forwardTable, inverseTable}
-use Rattle.lookups.proofs.Lawful.{lent-agrees}
+use Rattle.schedule.proofs.Laws.{schedule-length}
+use Rattle.fips197.specs.Cipher.{aesOf, standard}
+use Rattle.fips197.specs.Equivalent.{oneWay, inverseWords}
+use Rattle.fips197.proofs.Equivalent.{equivalent-agrees}
 use Rattle.fips197.proofs.Aes.{key-lawful}
 use Rattle.rfc3394.specs.Wrap.{initial, register, wrapped, unwrapped}
 use Rattle.wrap_answers.proofs.Sizes.{wrapped-size-parts}
-use Rattle.rfc3394.proofs.Agree.{wrapped-same, unwrapped-same}
+use Rattle.rfc3394.proofs.Agree.{unwrapped-same}
 use Rattle.wrap_answers.specs.Answers.{wrappedSizeFits, sizeFits, wrapRuled}
 use Rattle.wrap.specs.Calls.{wrapAnswer, wrapOutput, opening, unwrapAnswer, unwrapOutput}
-use Rattle.wrap.specs.Lent.{openedOver}
+use Rattle.wrap.specs.Unwrapping.{openedOver}
 use Rattle.wrap_answers.specs.declared.WrapAnswer.{WrapAnswer}
 use Rattle.wrap_answers.specs.declared.WrapAnswer.the-variants.{WrapDone, WrapKey, WrapSize, WrapRoom, WrongInitial}
 use Rattle.wrap_answers.proofs.WrapAnswer.{the-type}
@@ -106,12 +106,8 @@ module _ (key : List ℕ) (x : Expanded) (px : x ≡ scheduleOf sBox key) (dat o
       pub wrap-fits : (16 ≤ length dat) × (length dat ≤ 64) × (length dat % 8 ≡ 0) × (length dat + 8 ≤ length out)
       wrap-fits = let s = size-parts (length dat) (wrap-passed .size-right) in (s .0, s .1, s .2, wrap-passed .room)
 
-      pub wrapped-by : (t o : List ℕ) → t ≡ forwardTable → Bytes dat → o ≡ over (wrapped (oneTable t (x .schedule .words) (x .schedule .rounds)) dat) out → o ≡ wrapOutput a key dat out
-      wrapped-by t o pt b po =
-          let w = scheduleOf sBox key .schedule .words in
-          let nr = scheduleOf sBox key .schedule .rounds in
-          po ∙ rw (q, px, pt)
-          (ap (λ (y : List ℕ). over y out) (wrapped-same (oneTable forwardTable w nr) (aesOf key) (lent-agrees w nr .enc-same) (lawful (wrap-passed .key-taken)) dat (wrap-fits .2) b))
+      pub wrapped-by : (o : List ℕ) → o ≡ over (wrapped (standard (x .schedule .words) (x .schedule .rounds)) dat) out → o ≡ wrapOutput a key dat out
+      wrapped-by o po = po ∙ rw (q, px)
 
   module _ (pa : a ≡ wrapRuled (keyNumber (x .answer)) (wrappedSizeFits (length dat)) (length dat - 8) (length out) WrapDone) where
     pub unwrap-refused : Refused a → a ≡ unwrapAnswer key dat out
@@ -129,15 +125,15 @@ module _ (key : List ℕ) (x : Expanded) (px : x ≡ scheduleOf sBox key) (dat o
           let s = wrapped-size-parts (length dat) (unwrap-passed .size-right) in
           (s .0, s .1, s .2, omega (arith, unwrap-passed .room))
 
-      module _ (t v : List ℕ) (pt : t ≡ inverseTable) (pv : v ≡ inverseWords (x .schedule .words) (x .schedule .rounds)) (b : Bytes dat) where
-        unwrapped-is : unwrapped (oneTable t v (x .schedule .rounds)) dat ≡ unwrapped (aesOf key) dat
+      module _ (v : List ℕ) (pv : v ≡ inverseWords (x .schedule .words) (x .schedule .rounds)) (b : Bytes dat) where
+        unwrapped-is : unwrapped (oneWay v (x .schedule .rounds)) dat ≡ unwrapped (aesOf key) dat
         unwrapped-is =
             let w = scheduleOf sBox key .schedule .words in
             let nr = scheduleOf sBox key .schedule .rounds in
             let f = unwrap-fits in
-            rw (pv, px, pt) (unwrapped-same (oneTable inverseTable (inverseWords w nr) nr) (aesOf key) (lent-agrees w nr .dec-same) (lawful (unwrap-passed .key-taken)) dat (omega (arith, f .0)) (f .2) b)
+            rw (pv, px) (unwrapped-same (oneWay (inverseWords w nr) nr) (aesOf key) (equivalent-agrees w (schedule-length sBox key) nr .dec-same) (lawful (unwrap-passed .key-taken)) dat (omega (arith, f .0)) (f .2) b)
 
-        module _ (r : WrapAnswer) (pr : r ≡ opening (oneTable t v (x .schedule .rounds)) dat) where
+        module _ (r : WrapAnswer) (pr : r ≡ opening (oneWay v (x .schedule .rounds)) dat) where
           opening-is : r ≡ opening (aesOf key) dat
           opening-is = pr ∙ ap (λ (u : List ℕ). choose (same (register u 0) initial) WrapDone WrongInitial) unwrapped-is
 
@@ -148,7 +144,7 @@ module _ (key : List ℕ) (x : Expanded) (px : x ≡ scheduleOf sBox key) (dat o
               ∙ sym (ruled-through (keyNumber (x .answer)) (wrappedSizeFits (length dat)) (length dat - 8) (length out) (opening (aesOf key) dat) (sym pa ∙ q))
               ∙ ap (λ (y : Expanded). wrapRuled (keyNumber (y .answer)) (wrappedSizeFits (length dat)) (length dat - 8) (length out) (opening (aesOf key) dat)) px
 
-          pub unwrapped-by : (o : List ℕ) → o ≡ openedOver (oneTable t v (x .schedule .rounds)) dat out → o ≡ unwrapOutput r key dat out
+          pub unwrapped-by : (o : List ℕ) → o ≡ openedOver (oneWay v (x .schedule .rounds)) dat out → o ≡ unwrapOutput r key dat out
           unwrapped-by o po =
               po ∙ ap (λ (u : List ℕ). choose (same (register u 0) initial) (over (drop 8 u) out) out) unwrapped-is
               ∙ each (same (register (unwrapped (aesOf key) dat) 0) initial)

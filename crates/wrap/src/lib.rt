@@ -1,11 +1,9 @@
 // The key wrap of RFC 3394 under AES: replacement keys, wrapped under a key that the receiver has.
-use cipher::inverse_words;
+use aes_schedule_inverse::invert;
 use registers::passes;
 use registers::unpasses;
 use schedule::KeySchedule;
 use slices::copy;
-use tables::forward_table;
-use tables::inverse_table;
 use wrap_answers::WrapAnswer;
 use wrap_answers::is_initial;
 use wrap_answers::judge_unwrap;
@@ -14,9 +12,10 @@ ghost use mathlib.Core.Path.{_≡_};
 ghost use Prim.Native.Nat.{_+_, _%_, _≤_};
 ghost use lib.ListN.{length};
 ghost use Rattle.octets.specs.Octets.{padTo, over};
-ghost use Rattle.lookups.specs.Lookups.{oneTable};
+ghost use Rattle.fips197.specs.Cipher.{standard};
+ghost use Rattle.fips197.specs.Equivalent.{oneWay};
 ghost use Rattle.rfc3394.specs.Wrap.{wrapped, unwrapped};
-ghost use Rattle.wrap.specs.Lent.{openedOver};
+ghost use Rattle.wrap.specs.Unwrapping.{openedOver};
 ghost use Rattle.wrap.specs.Calls as spec;
 
 // Wraps 16 to 64 bytes of key data, a multiple of 8; the result, 8 bytes more, goes into the first bytes of the output.
@@ -33,8 +32,7 @@ pub fn wrap(key: &[u8], data: &[u8], output: &mut [u8]) -> WrapAnswer
     let WrapAnswer::WrapDone = answer else {
         return answer;
     };
-    let table = forward_table();
-    wrap_into(&table, &words, schedule.rounds, data, output);
+    wrap_into(&words, schedule.rounds, data, output);
     answer
 }
 
@@ -47,42 +45,34 @@ pub fn unwrap(key: &[u8], data: &[u8], output: &mut [u8]) -> WrapAnswer
     let made = KeySchedule::new(key);
     let taken = made.answer;
     let schedule = made.schedule;
-    let words = schedule.words;
+    let mut words = schedule.words;
     let answer = judge_unwrap(taken, data.len(), output.len());
     let WrapAnswer::WrapDone = answer else {
         return answer;
     };
-    let mut back = [0u32; 60];
-    inverse_words(&words, schedule.rounds, &mut back);
-    let table = inverse_table();
-    unwrap_into(&table, &back, schedule.rounds, data, output)
+    invert(&mut words, schedule.rounds);
+    unwrap_into(&words, schedule.rounds, data, output)
 }
 
 // Nothing is refused from here on, so the registers stand in the output itself.
-fn wrap_into(table: &[u32; 256], words: &[u32; 60], rounds: usize, given: &[u8], output: &mut [u8])
+fn wrap_into(words: &[u32; 60], rounds: usize, given: &[u8], output: &mut [u8])
     requires { ⌜ (16 ≤ length (now given)) × (length (now given) ≤ 64) × (length (now given) % 8 ≡ 0) × (length (now given) + 8 ≤ length (now output)) ⌝ }
-    ensures { λ _. ⌜ now (output .exit) ≡ over (wrapped (oneTable (now (table .entry)) (now (words .entry)) rounds) (now (given .entry))) (now (output .entry)) ⌝ }
+    ensures { λ _. ⌜ now (output .exit) ≡ over (wrapped (standard (now (words .entry)) rounds) (now (given .entry))) (now (output .entry)) ⌝ }
 {
     let first = [0xa6u8; 8];
     copy(&first, output, 0);
     copy(given, output, 8);
     let len = given.len() + 8;
-    passes(table, words, rounds, &mut output[0..len]);
+    passes(words, rounds, &mut output[0..len]);
 }
 
 // Works in memory of its own: nothing of a wrapped key whose check is wrong reaches the output.
-fn unwrap_into(
-    table: &[u32; 256],
-    words: &[u32; 60],
-    rounds: usize,
-    given: &[u8],
-    output: &mut [u8],
-) -> WrapAnswer
+fn unwrap_into(words: &[u32; 60], rounds: usize, given: &[u8], output: &mut [u8]) -> WrapAnswer
     requires { ⌜ (24 ≤ length (now given)) × (length (now given) ≤ 72) × (length (now given) % 8 ≡ 0) × (length (now given) ≤ length (now output) + 8) ⌝ }
-    ensures answer { λ r. ⌜ r ≡ spec.opening (oneTable (now (table .entry)) (now (words .entry)) rounds) (now (given .entry)) ⌝ }
-    ensures written { λ r. ⌜ now (output .exit) ≡ openedOver (oneTable (now (table .entry)) (now (words .entry)) rounds) (now (given .entry)) (now (output .entry)) ⌝ }
+    ensures answer { λ r. ⌜ r ≡ spec.opening (oneWay (now (words .entry)) rounds) (now (given .entry)) ⌝ }
+    ensures written { λ r. ⌜ now (output .exit) ≡ openedOver (oneWay (now (words .entry)) rounds) (now (given .entry)) (now (output .entry)) ⌝ }
 {
-    let w = opened(table, words, rounds, given);
+    let w = opened(words, rounds, given);
     if !is_initial(&w) {
         return WrapAnswer::WrongInitial;
     }
@@ -91,13 +81,13 @@ fn unwrap_into(
 }
 
 // The registers at the end, then zeros.
-fn opened(table: &[u32; 256], words: &[u32; 60], rounds: usize, given: &[u8]) -> [u8; 72]
+fn opened(words: &[u32; 60], rounds: usize, given: &[u8]) -> [u8; 72]
     requires { ⌜ (24 ≤ length (now given)) × (length (now given) ≤ 72) × (length (now given) % 8 ≡ 0) ⌝ }
-    ensures registers { λ r. ⌜ r ≡ padTo 72 (unwrapped (oneTable (now (table .entry)) (now (words .entry)) rounds) (now (given .entry))) ⌝ }
-    ensures size { λ _. ⌜ length (unwrapped (oneTable (now (table .entry)) (now (words .entry)) rounds) (now (given .entry))) ≡ length (now (given .entry)) ⌝ }
+    ensures registers { λ r. ⌜ r ≡ padTo 72 (unwrapped (oneWay (now (words .entry)) rounds) (now (given .entry))) ⌝ }
+    ensures size { λ _. ⌜ length (unwrapped (oneWay (now (words .entry)) rounds) (now (given .entry))) ≡ length (now (given .entry)) ⌝ }
 {
     let mut w = [0u8; 72];
     copy(given, &mut w, 0);
-    unpasses(table, words, rounds, &mut w[0..given.len()]);
+    unpasses(words, rounds, &mut w[0..given.len()]);
     w
 }

@@ -15,14 +15,12 @@ use Rattle.octets.proofs.Blocks.{zeros-bytes}
 use Rattle.sbox.specs.Sbox.{sBox}
 use Rattle.schedule.specs.Schedule.{scheduleOf, keyNumber}
 use Rattle.schedule.specs.declared.Expanded.{Expanded}
-use Rattle.tables.specs.Tables.{forwardTable, inverseTable}
-use Rattle.fips197.proofs.Aes.{key-lawful}
+use Rattle.fips197.specs.Cipher.{standard}
 use Rattle.limits.specs.Marks.{isEdition, markOf}
 use Rattle.limits.specs.Fits.{countFits, lengthFits}
 use Rattle.format.specs.Edition.{noCheck, tailOf, edition}
 use Rattle.format.specs.Sealed.{headFor}
 use Rattle.format.specs.Lent.{bothTaken, sealedOver}
-use Rattle.format.proofs.Editions.{tail-bytes}
 use Rattle.format.proofs.Agree.{sealed-same}
 use Rattle.write_answers.specs.Answers.{writeRuled, lastFor}
 use Rattle.writer.specs.Calls.{writeAnswer, writeOutput}
@@ -102,28 +100,18 @@ module _ (ekey ckey : List ℕ) (e c : Expanded) (enc-is : e ≡ scheduleOf sBox
   pub write-fits : a ≡ Written → (length payload ≤ 480) × (isEdition (n .edition) ≡ true)
   write-fits q = (passed q .len, passed q .known)
 
-  keys-taken : a ≡ Written → (keyNumber (scheduleOf sBox ekey .answer) ≡ 0) × (keyNumber (scheduleOf sBox ckey .answer) ≡ 0)
-  keys-taken q =
-      let b = and-true (eqb (keyNumber (e .answer)) 0) (eqb (keyNumber (c .answer)) 0) (passed q .keys) in
-      (taken e ekey enc-is (b .0), taken c ckey chk-is (b .1))
-    where
-      taken : (x : Expanded) (key : List ℕ) → x ≡ scheduleOf sBox key → eqb (keyNumber (x .answer)) 0 ≡ true → keyNumber (scheduleOf sBox key .answer) ≡ 0
-      taken x key ex ez = ap (λ (y : Expanded). keyNumber (y .answer)) (sym ex) ∙ eqb-true (keyNumber (x .answer)) 0 ez
-
-  pub written-by : (previous o : List ℕ) → Bytes previous → Bytes payload → a ≡ Written
+  pub written-by : (previous o : List ℕ) → a ≡ Written
       → o ≡ sealedUnder (e .schedule .words) (c .schedule .words) (record { enc = e .schedule .rounds; chk = c .schedule .rounds }) (tailOf (n .edition) (lastFor (n .number) previous)) (headFor (edition (n .edition)) (n .number) (n .count) (n .release) (length payload)) payload out
       → o ≡ writeOutput a ekey ckey n previous payload out
   unfolding sealedOver
-  written-by previous o bv bp q po =
+  written-by previous o q po =
       let f = passed q in
-      let h = headFor (edition (n .edition)) (n .number) (n .count) (n .release) (length payload) in
       let x = scheduleOf sBox ekey .schedule in
       let y = scheduleOf sBox ckey .schedule in
-      let last = lastFor (n .number) previous in
       po ∙ rw (le-leb (length payload) 480 (f .len), le-leb 512 (length out) (f .room), q, enc-is, chk-is)
       (ap (λ (b : List ℕ). over b out)
-      (sealed-same forwardTable inverseTable refl refl (x .words) (y .words) (x .rounds) (y .rounds) _ _ refl refl (key-lawful ekey (keys-taken q .0)) (key-lawful ckey (keys-taken q .1))
-      (tailOf (n .edition) last) (tail-bytes (n .edition) last (last-bytes (n .number) previous bv)) h payload (f .len) bp))
+      (sealed-same (y .words) (y .rounds) _ _ refl refl (standard (x .words) (x .rounds)) (tailOf (n .edition) (lastFor (n .number) previous))
+      (headFor (edition (n .edition)) (n .number) (n .count) (n .release) (length payload)) payload))
 
 -- an answer that is not the first case leaves the output as it was
 pub write-kept : (a : WriteAnswer) (ekey ckey : List ℕ) (n : Numbers) (previous payload out : List ℕ) → OneOf (1 ∷ 2 ∷ 3 ∷ 4 ∷ 5 ∷ 6 ∷ []) (tagOf the-type a)

@@ -1,15 +1,14 @@
 -- What the writer seals as the code has it. Assumes nothing: these are definitions.
 use Prim.Native.Nat.{ℕ}
 use mathlib.Core.List.{List}
-use Rattle.tables.specs.Tables.{forwardTable}
-use Rattle.lookups.specs.Lookups.{oneTable}
+use Rattle.fips197.specs.Cipher.{standard}
 use Rattle.sp800_38b.specs.Cmac.{key1, key2}
 use Rattle.format.specs.Lent.{lentMac, sealedOver}
 use Rattle.format.specs.declared.Rounds.{Rounds}
 use Rattle.layout.specs.declared.Head.{Head}
 
--- what sealing under two schedules leaves of an output, over the standard's table
+-- what sealing under two schedules leaves of an output
 abbrev pub sealedUnder : (ewords cwords : List ℕ) → Rounds → (tail : List ℕ) → Head → (payload out : List ℕ) → List ℕ
 sealedUnder ewords cwords n tail h payload out =
-    sealedOver (oneTable forwardTable ewords (n .enc))
-    (lentMac forwardTable cwords (n .chk) (key1 (oneTable forwardTable cwords (n .chk))) (key2 (oneTable forwardTable cwords (n .chk)))) tail h payload out
+    sealedOver (standard ewords (n .enc))
+    (lentMac cwords (n .chk) (key1 (standard cwords (n .chk))) (key2 (standard cwords (n .chk)))) tail h payload out

@@ -6,7 +6,6 @@ use limits::mark_of;
 use limits::tail_size;
 use schedule::KeySchedule;
 use seal::seal;
-use tables::forward_table;
 use write_answers::Numbers;
 use write_answers::WriteAnswer;
 use write_answers::judge_write;
@@ -73,14 +72,12 @@ fn seal_under(
     requires { ⌜ (length (now payload) ≤ 480) × (isEdition (numbers .edition) ≡ true) ⌝ }
     ensures { λ _. ⌜ now (output .exit) ≡ sealedUnder (now (ewords .entry)) (now (cwords .entry)) rounds (tailOf (numbers .edition) (lastFor (numbers .number) previous)) (headFor (edition (numbers .edition)) (numbers .number) (numbers .count) (numbers .release) (length (now (payload .entry)))) (now (payload .entry)) (now (output .entry)) ⌝ }
 {
-    let forth = forward_table();
-    let key1 = subkeys::key1(&forth, cwords, rounds.chk);
+    let key1 = subkeys::key1(cwords, rounds.chk);
     let key2 = subkeys::key2(key1);
     let head = head_for(numbers, payload.len());
     let last = last_for(numbers.number, previous);
     let covered = tail_size(numbers.edition);
     seal(
-        &forth,
         ewords,
         cwords,
         &key1,

@@ -10,7 +10,7 @@ use Rattle.checking.proofs.check_holds.Tie as tie
 returns : tie.Need-returns
 returns c =
     let a = c .before .before .before .args in
-    checks-none (lentMac (a .forth .now) (a .cwords .now) (a .rounds .chk) (a .key1 .now) (a .key2 .now)) (a .tail .now) (a .block .now) (mac-sized (a .forth .now) (a .cwords .now) (a .rounds .chk) (a .key1 .now) (a .key2 .now)) (c .if1 .taken) (usable (a .rounds))
+    checks-none (lentMac (a .cwords .now) (a .rounds .chk) (a .key1 .now) (a .key2 .now)) (a .tail .now) (a .block .now) (mac-sized (a .cwords .now) (a .rounds .chk) (a .key1 .now) (a .key2 .now)) (c .if1 .taken) (usable (a .rounds))
 
 is-round-count-requires : tie.Need-is-round-count-requires
 is-round-count-requires c κs = search needs
@@ -18,7 +18,7 @@ is-round-count-requires c κs = search needs
 returns-2 : tie.Need-returns-2
 returns-2 c =
     let a = c .before .before .before .before .before .args in
-    unusable-enc (a .rounds) (checks (lentMac (a .forth .now) (a .cwords .now) (a .rounds .chk) (a .key1 .now) (a .key2 .now)) (a .tail .now) (a .block .now)) (sym (c .before .is-round-count .ensures) ∙ flip _ (c .if2 .taken))
+    unusable-enc (a .rounds) (checks (lentMac (a .cwords .now) (a .rounds .chk) (a .key1 .now) (a .key2 .now)) (a .tail .now) (a .block .now)) (sym (c .before .is-round-count .ensures) ∙ flip _ (c .if2 .taken))
 
 is-round-count-requires-2 : tie.Need-is-round-count-requires-2
 is-round-count-requires-2 c κs = search needs
@@ -26,7 +26,7 @@ is-round-count-requires-2 c κs = search needs
 returns-3 : tie.Need-returns-3
 returns-3 c =
     let a = c .before .before .before .before .before .before .before .args in
-    unusable-chk (a .rounds) (checks (lentMac (a .forth .now) (a .cwords .now) (a .rounds .chk) (a .key1 .now) (a .key2 .now)) (a .tail .now) (a .block .now)) (sym (c .before .is-round-count2 .ensures) ∙ flip _ (c .if3 .taken))
+    unusable-chk (a .rounds) (checks (lentMac (a .cwords .now) (a .rounds .chk) (a .key1 .now) (a .key2 .now)) (a .tail .now) (a .block .now)) (sym (c .before .is-round-count2 .ensures) ∙ flip _ (c .if3 .taken))
 
 sub-check-of : tie.Need-sub-check-of
 sub-check-of c = search needs
@@ -52,7 +52,7 @@ returns-4 c =
     let m = n .before .before in
     let w = m .before .before in
     let a = w .before .before .before .args in
-    let k = lentMac (a .forth .now) (a .cwords .now) (a .rounds .chk) (a .key1 .now) (a .key2 .now) in
+    let k = lentMac (a .cwords .now) (a .rounds .chk) (a .key1 .now) (a .key2 .now) in
     c .equal .ensures ∙ checks-by k (a .tail .now) (a .block .now) (w .if1 .left) _ _ (c .before .before .check-of .ensures) (c .before .load .ensures)
     ∙ usable-both (a .rounds) (checks k (a .tail .now) (a .block .now)) (sym (m .before .is-round-count .ensures) ∙ flip _ (m .if2 .left)) (sym (n .before .is-round-count2 .ensures) ∙ flip _ (n .if3 .left))
 

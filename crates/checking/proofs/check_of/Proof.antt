@@ -1,5 +1,5 @@
 use mathlib.Core.Path.{_∙_}
-use Rattle.lookups.specs.Lookups.{oneTable}
+use Rattle.fips197.specs.Cipher.{standard}
 use Rattle.running.proofs.Laws.{whole-by}
 use borrow.Author.Needs.{needs}
 use Rattle.checking.proofs.check_of.Statement.{statement}
@@ -24,7 +24,7 @@ returns c =
     let n = f1 .before in
     let a = n .before .before .before .args in
     c .closed .ensures ∙ rw (f2 .fed2 .ensures, f1 .fed .ensures, n .new .ensures)
-    (whole-by (oneTable (a .forth .now) (a .cwords .now) (a .rounds)) (a .key1 .now) (a .key2 .now) (a .front .now) (a .tail .now))
+    (whole-by (standard (a .cwords .now) (a .rounds)) (a .key1 .now) (a .key2 .now) (a .front .now) (a .tail .now))
 
 pub check-of-spec : {M : Type 1} → statement M
 check-of-spec = tie.close (tie.spec new-requires fed-requires fed-requires-2 closed-requires returns)

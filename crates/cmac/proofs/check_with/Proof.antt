@@ -1,6 +1,6 @@
 use mathlib.Core.Path.{_∙_}
 use denote.Ref.{now}
-use Rattle.lookups.specs.Lookups.{oneTable}
+use Rattle.fips197.specs.Cipher.{standard}
 use Rattle.running.proofs.Laws.{whole-fed}
 use borrow.Author.Needs.{needs}
 use Rattle.cmac.proofs.check_with.Statement.{statement}
@@ -18,7 +18,7 @@ close-run-requires c κs = search needs
 returns : tie.Need-returns
 returns c =
     let a = c .before .before .before .before .args in
-    c .close-run .ensures ∙ rw (c .before .fed .ensures, c .before .before .new .ensures) (whole-fed (oneTable (now (a .table)) (now (a .words)) (a .rounds)) (now (a .message)))
+    c .close-run .ensures ∙ rw (c .before .fed .ensures, c .before .before .new .ensures) (whole-fed (standard (now (a .words)) (a .rounds)) (now (a .message)))
 
 pub check-with-spec : {M : Type 1} → statement M
 check-with-spec = tie.close (tie.spec new-requires fed-requires close-run-requires returns)

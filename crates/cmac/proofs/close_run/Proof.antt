@@ -1,7 +1,7 @@
 use mathlib.Core.Path.{_∙_}
 use denote.Ref.{now}
 use Rattle.sp800_38b.specs.Cmac.{key2}
-use Rattle.lookups.specs.Lookups.{oneTable}
+use Rattle.fips197.specs.Cipher.{standard}
 use Rattle.running.proofs.Laws.{closed-by}
 use borrow.Author.Needs.{needs}
 use Rattle.cmac.proofs.close_run.Statement.{statement}
@@ -20,7 +20,7 @@ returns : tie.Need-returns
 unfolding key2
 returns c =
     let a = c .before .before .before .before .before .args in
-    c .closed .ensures ∙ rw (c .before .before .before .key2 .ensures, c .before .before .before .before .key1 .ensures) (closed-by (oneTable (now (a .table)) (now (a .words)) (a .rounds)) (a .run))
+    c .closed .ensures ∙ rw (c .before .before .before .key2 .ensures, c .before .before .before .before .key1 .ensures) (closed-by (standard (now (a .words)) (a .rounds)) (a .run))
 
 pub close-run-spec : {M : Type 1} → statement M
 close-run-spec = tie.close (tie.spec key1-requires key2-requires closed-requires returns)

@@ -1,8 +1,8 @@
 use Rattle.blocks.specs.Blocks.{blockAt}
 use mathlib.Core.Path.{_≡_, ap, _∙_}
 use Prim.Native.Nat.{_*_}
-use Rattle.lookups.specs.Lookups.{tableEncrypt}
-use Rattle.octets.specs.Octets.{entry}
+use Rattle.fips197.specs.Cipher.{encryptBlock}
+use Rattle.sbox.specs.Sbox.{sBox}
 use Rattle.blocks.proofs.Laws.{block-at}
 use Rattle.format.proofs.Opening.{first-chain, later-chain}
 use native.Mathlib.Omega.{arith}
@@ -28,7 +28,7 @@ returns c =
     let z : a .i ≡ 0 = c .before .if1 .taken in
     let f : 16 * a .i ≡ 0 = omega arith in
     c .encrypt-block .ensures
-    ∙ ap (tableEncrypt (entry (a .forth .now)) (a .ewords .now) (a .rounds)) (l .load .ensures ∙ ap (blockAt b) f ∙ block-at b 0 (omega arith))
+    ∙ ap (encryptBlock sBox (a .ewords .now) (a .rounds)) (l .load .ensures ∙ ap (blockAt b) f ∙ block-at b 0 (omega arith))
     ∙ first-chain b (s .pre .0) _ (a .i) z
 
 returns-2 : tie.Need-returns-2

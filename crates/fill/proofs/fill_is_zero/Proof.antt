@@ -1,5 +1,5 @@
-use Rattle.octets.specs.Octets.{entry}
-use Rattle.lookups.specs.Lookups.{tableCipher}
+use Rattle.sbox.specs.Sbox.{sBox, invSBox}
+use Rattle.fips197.specs.Equivalent.{equivalentCipher}
 use Rattle.format.proofs.Sizes.{encrypt-sized, decrypt-sized}
 use Rattle.format.proofs.Opening.{fill-of-none, fill-of-block, fill-past}
 use Rattle.fill.proofs.fill_is_zero.Statement.{statement}
@@ -8,13 +8,13 @@ use Rattle.fill.proofs.fill_is_zero.Tie as tie
 returns : tie.Need-returns
 returns c =
     let a = c .before .before .args in
-    fill-of-none (tableCipher (a .forth .now) (a .back .now) (a .ewords .now) (a .dwords .now) (a .rounds)) (a .len) (a .block .now) (c .if1 .taken)
+    fill-of-none (equivalentCipher (a .ewords .now) (a .dwords .now) (a .rounds)) (a .len) (a .block .now) (c .if1 .taken)
 
 returns-2 : tie.Need-returns-2
 returns-2 c =
     let a = c .before .before .before .args in
-    fill-past (tableCipher (a .forth .now) (a .back .now) (a .ewords .now) (a .dwords .now) (a .rounds)) (a .len) (a .block .now) (c .before .if1 .left)
-    (encrypt-sized (entry (a .forth .now)) (a .ewords .now) (a .rounds)) (decrypt-sized (entry (a .back .now)) (a .dwords .now) (a .rounds)) (c .if2 .taken)
+    fill-past (equivalentCipher (a .ewords .now) (a .dwords .now) (a .rounds)) (a .len) (a .block .now) (c .before .if1 .left)
+    (encrypt-sized sBox (a .ewords .now) (a .rounds)) (decrypt-sized invSBox (a .dwords .now) (a .rounds)) (c .if2 .taken)
 
 zero-after-requires : tie.Need-zero-after-requires
 zero-after-requires c κs = (c .before .if1 .left, c .if2 .left)
@@ -23,7 +23,7 @@ returns-3 : tie.Need-returns-3
 returns-3 c =
     let w = c .before .before in
     let a = w .before .before .args in
-    fill-of-block (tableCipher (a .forth .now) (a .back .now) (a .ewords .now) (a .dwords .now) (a .rounds)) (a .len) (a .block .now) (w .if1 .left) _ (c .zero-after .ensures)
+    fill-of-block (equivalentCipher (a .ewords .now) (a .dwords .now) (a .rounds)) (a .len) (a .block .now) (w .if1 .left) _ (c .zero-after .ensures)
 
 pub fill-is-zero-spec : {M : Type 1} → statement M
 fill-is-zero-spec = tie.close (tie.spec returns returns-2 zero-after-requires returns-3)

@@ -26,13 +26,13 @@ start m = m .before .before .before .before .before .before .before .before .bef
 abbrev keys : tie.Start → Keys
 keys s =
     let a = s .args in
-    lentKeys (a .forth .now) (a .back .now) (a .ewords .now) (a .dwords .now) (a .cwords .now) (a .key1 .now) (a .key2 .now) (a .rounds)
+    lentKeys (a .ewords .now) (a .dwords .now) (a .cwords .now) (a .key1 .now) (a .key2 .now) (a .rounds)
 
 sized : (s : tie.Start) → Sixteen (keys s .mac)
-sized s = let a = s .args in mac-sized (a .forth .now) (a .cwords .now) (a .rounds .chk) (a .key1 .now) (a .key2 .now)
+sized s = let a = s .args in mac-sized (a .cwords .now) (a .rounds .chk) (a .key1 .now) (a .key2 .now)
 
 last-size : (s : tie.Start) → length (s .args .progress .last) ≡ 16
-last-size s = length-unmapped ℕ (s .args .progress .last) 16 (s .good .1 .1 .1 .1 .1 .1 .1 .1 .0 .1 .1 .1 .1 .1 .1 .0 .1 .0 .1)
+last-size s = length-unmapped ℕ (s .args .progress .last) 16 (s .good .1 .1 .1 .1 .1 .1 .0 .1 .1 .1 .1 .1 .1 .0 .1 .0 .1)
 
 more : (m : Asked) → closed (start m .args .progress) ≡ false
 more m = let d = m .before .before .before .before .before .before in sym (d .before .closed .ensures) ∙ d .if1 .left

@@ -1,20 +1,16 @@
 use Prim.Native.Nat.{ℕ}
 use Rattle.pieces.proofs.Agree.{through-forward, through-backward}
 use Rattle.pieces.specs.Runs.{runOver}
-use Rattle.lookups.specs.Lookups.{oneTable, inverseWords}
-use Rattle.tables.specs.Tables.{forwardTable, inverseTable}
+use Rattle.fips197.specs.Equivalent.{oneWay, inverseWords}
 use denote.Ref.{now}
 use mathlib.Core.List.{List}
-use mathlib.Core.Path.{sym, ap, ap₂, _∙_}
+use mathlib.Core.Path.{sym, ap, _∙_}
 use borrow.Author.Needs.{needs}
 use Rattle.modes.proofs.under_schedule.Statement.{statement}
 use Rattle.modes.proofs.under_schedule.Tie as tie
 
 inverts-requires : tie.Need-inverts-requires
 inverts-requires c κs = search needs
-
-inverse-table-requires : tie.Need-inverse-table-requires
-inverse-table-requires c κs = search needs
 
 inverse-words-requires : tie.Need-inverse-words-requires
 inverse-words-requires c κs = search needs
@@ -27,17 +23,13 @@ same-length c = search needs
 
 returns : tie.Need-returns
 returns c =
-    let k = c .before .before .before .before .before .before in
-    let a = k .before .before .before .before .before .before .before .args in
+    let k = c .before .before .before .before .before in
+    let a = k .before .before .before .before .before .before .args in
     let w = now (a .words) in
     c .before .before .run .ensures
-    ∙ ap₂ (λ (t v : List ℕ). runOver (oneTable t v (a .rounds)) (a .operation) (a .iv) (now (a .input)) (now (a .output)))
-    (k .before .before .inverse-table .ensures) (k .inverse-words .ensures)
-    ∙ through-backward forwardTable inverseTable w (inverseWords w (a .rounds)) (a .rounds) (a .operation) (a .iv) (now (a .input)) (now (a .output))
-    (sym (k .before .before .before .before .inverts .ensures) ∙ k .before .before .before .if1 .taken)
-
-forward-table-requires : tie.Need-forward-table-requires
-forward-table-requires c κs = search needs
+    ∙ ap (λ (v : List ℕ). runOver (oneWay v (a .rounds)) (a .operation) (a .iv) (now (a .input)) (now (a .output))) (k .inverse-words .ensures)
+    ∙ through-backward w (inverseWords w (a .rounds)) (a .rounds) (a .operation) (a .iv) (now (a .input)) (now (a .output))
+    (sym (k .before .before .before .inverts .ensures) ∙ k .before .before .if1 .taken)
 
 run-requires-2 : tie.Need-run-requires-2
 run-requires-2 c κs = search needs
@@ -47,25 +39,22 @@ same-length-2 c = search needs
 
 returns-2 : tie.Need-returns-2
 returns-2 c =
-    let k = c .before .before .before .before .before in
-    let a = k .before .before .before .before .before .args in
+    let k = c .before .before .before .before in
+    let a = k .before .before .before .before .args in
     let w = now (a .words) in
     c .before .before .run2 .ensures
-    ∙ ap (λ (t : List ℕ). runOver (oneTable t w (a .rounds)) (a .operation) (a .iv) (now (a .input)) (now (a .output))) (k .forward-table .ensures)
-    ∙ through-forward forwardTable inverseTable w (inverseWords w (a .rounds)) (a .rounds) (a .operation) (a .iv) (now (a .input)) (now (a .output))
-    (sym (k .before .before .inverts .ensures) ∙ k .before .if1 .left)
+    ∙ through-forward w (inverseWords w (a .rounds)) (a .rounds) (a .operation) (a .iv) (now (a .input)) (now (a .output))
+    (sym (k .before .inverts .ensures) ∙ k .if1 .left)
 
 pub under-schedule-spec : {M : Type 1} → statement M
 under-schedule-spec =
     tie.close
     (tie.spec
     inverts-requires
-    inverse-table-requires
     inverse-words-requires
     run-requires
     same-length
     returns
-    forward-table-requires
     run-requires-2
     same-length-2
     returns-2)

@@ -3,8 +3,8 @@ use mathlib.Core.List.{List}
 use Prim.Native.Nat.{ℕ}
 use lib.ListN.{length, take, drop}
 use lib.Seq.{length-take-le}
-use Rattle.octets.specs.Octets.{entry}
-use Rattle.lookups.specs.Lookups.{tableCipher, oneTable}
+use Rattle.sbox.specs.Sbox.{sBox, invSBox}
+use Rattle.fips197.specs.Equivalent.{equivalentCipher, oneWay}
 use Rattle.sp800_38a.specs.declared.Operation.the-variants.{CbcDecrypt}
 use Rattle.pieces.proofs.Agree.{through-whole}
 use Rattle.format.proofs.Sizes.{encrypt-sized, decrypt-sized, body-length}
@@ -17,12 +17,12 @@ use Rattle.opening.proofs.open_block.Tie as tie
 returns : tie.Need-returns
 returns c =
     let a = c .before .before .before .args in
-    open-none (tableCipher (a .forth .now) (a .back .now) (a .ewords .now) (a .dwords .now) (a .rounds)) (a .block .now) (a .output .now) (c .if1 .taken)
+    open-none (equivalentCipher (a .ewords .now) (a .dwords .now) (a .rounds)) (a .block .now) (a .output .now) (c .if1 .taken)
 
 returns-2 : tie.Need-returns-2
 returns-2 c =
     let a = c .before .before .before .before .args in
-    open-short (tableCipher (a .forth .now) (a .back .now) (a .ewords .now) (a .dwords .now) (a .rounds)) (a .block .now) (a .output .now) (c .before .if1 .left) (c .if2 .taken)
+    open-short (equivalentCipher (a .ewords .now) (a .dwords .now) (a .rounds)) (a .block .now) (a .output .now) (c .before .if1 .left) (c .if2 .taken)
 
 load-requires : tie.Need-load-requires
 load-requires c κs = search needs
@@ -65,9 +65,9 @@ returns-3 c =
     let b = a .block .now in
     let room = i2 .if2 .left in
     let size : length (take 480 (drop 16 b)) ≡ 480 = body-length b (i1 .if1 .left) in
-    let w = through-whole (oneTable (a .back .now) (a .dwords .now) (a .rounds)) CbcDecrypt _ (take 480 (drop 16 b)) (take 480 (a .output .now)) (omega arith) (size ∙ sym (length-take-le 480 (a .output .now) room)) in
-    open-by (tableCipher (a .forth .now) (a .back .now) (a .ewords .now) (a .dwords .now) (a .rounds)) b (a .output .now) (i1 .if1 .left) room
-    (encrypt-sized (entry (a .forth .now)) (a .ewords .now) (a .rounds)) (decrypt-sized (entry (a .back .now)) (a .dwords .now) (a .rounds))
+    let w = through-whole (oneWay (a .dwords .now) (a .rounds)) CbcDecrypt _ (take 480 (drop 16 b)) (take 480 (a .output .now)) (omega arith) (size ∙ sym (length-take-le 480 (a .output .now) room)) in
+    open-by (equivalentCipher (a .ewords .now) (a .dwords .now) (a .rounds)) b (a .output .now) (i1 .if1 .left) room
+    (encrypt-sized sBox (a .ewords .now) (a .rounds)) (decrypt-sized invSBox (a .dwords .now) (a .rounds))
     _ _ _ _ (l .load .ensures) (e .encrypt-block .ensures) (ap (λ (t : List ℕ × List ℕ). t .1) (r .run .ensures ∙ w)) refl
 
 pub open-block-spec : {M : Type 1} → statement M

@@ -1,6 +1,6 @@
 use mathlib.Core.Path.{sym, _∙_}
 use denote.Ref.{now}
-use Rattle.lookups.specs.Lookups.{oneTable}
+use Rattle.fips197.specs.Equivalent.{oneWay}
 use Rattle.pieces.proofs.Runs.{run-whole, run-all}
 use borrow.Author.Needs.{needs}
 use Rattle.pieces.proofs.run.Statement.{statement}
@@ -48,7 +48,7 @@ returns c =
     let w = any .before .before .before in
     let s = w .before .before in
     let a = s .before .before .before .args in
-    run-all (oneTable (now (a .table)) (now (a .words)) (a .rounds)) (a .operation) (a .iv) (now (a .input)) (now (a .output)) _ _ (w .in-order .ensures)
+    run-all (oneWay (now (a .words)) (a .rounds)) (a .operation) (a .iv) (now (a .input)) (now (a .output)) _ _ (w .in-order .ensures)
     (sym (any .any-length .ensures) ∙ c .before .before .before .before .before .if1 .taken) _ (s .shorter .ensures) (search needs) _ _ (c .before .before .last-piece .ensures)
 
 same-length-2 : tie.Need-same-length-2
@@ -58,7 +58,7 @@ returns-2 : tie.Need-returns-2
 returns-2 c =
     let w = c .before .before .before .before in
     let a = w .before .before .before .before .before .args in
-    run-whole (oneTable (now (a .table)) (now (a .words)) (a .rounds)) (a .operation) (a .iv) (now (a .input)) (now (a .output)) _ _ (w .in-order .ensures)
+    run-whole (oneWay (now (a .words)) (a .rounds)) (a .operation) (a .iv) (now (a .input)) (now (a .output)) _ _ (w .in-order .ensures)
     (sym (c .before .any-length .ensures) ∙ c .if1 .left)
 
 pub run-spec : {M : Type 1} → statement M

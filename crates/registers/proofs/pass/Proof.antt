@@ -1,7 +1,7 @@
 use mathlib.Core.Path.{_≡_, refl, sym, ap, _∙_}
 use Prim.Native.Nat.{ℕ, _+_, _*_, _-_, _≤_}
 use lib.ListN.{length}
-use Rattle.lookups.specs.Lookups.{oneTable}
+use Rattle.fips197.specs.Cipher.{standard}
 use Rattle.rfc3394.specs.Wrap.{step, pass}
 use Rattle.registers.proofs.Sizes.{product-fits}
 use Rattle.rfc3394.proofs.Passing.{pass-none, pass-more}
@@ -11,10 +11,10 @@ use Rattle.registers.proofs.pass.Statement.{statement}
 use Rattle.registers.proofs.pass.Tie as tie
 
 abbrev Inv-loop : tie.InvT-loop
-Inv-loop table words rounds n j w₀ m₀ w m = (m ≤ n) × (length w ≡ length w₀) × (w ≡ pass (oneTable table words rounds) n j m w₀)
+Inv-loop words rounds n j w₀ m₀ w m = (m ≤ n) × (length w ≡ length w₀) × (w ≡ pass (standard words rounds) n j m w₀)
 
 abbrev μ-loop : tie.MeasureT-loop
-μ-loop table words rounds n j w₀ m₀ w m = n - m
+μ-loop words rounds n j w₀ m₀ w m = n - m
 
 -- a step number is one byte
 small : (g : tie.In-loop Inv-loop μ-loop) → g .before .before .before .args .n * g .before .before .before .args .j ≤ 40
@@ -23,7 +23,7 @@ small g = let s = g .before .before .before in product-fits (s .args .n) (s .arg
 loop-holds : tie.Need-loop-holds Inv-loop μ-loop
 loop-holds c =
     let a = c .before .args in
-    (omega arith, refl, pass-none (oneTable (a .table .now) (a .words .now) (a .rounds)) (a .n) (a .j) (a .w .now))
+    (omega arith, refl, pass-none (standard (a .words .now) (a .rounds)) (a .n) (a .j) (a .w .now))
 
 add-i : tie.Need-add-i Inv-loop μ-loop
 add-i c = search needs
@@ -47,7 +47,7 @@ loop-again : tie.Need-loop-again Inv-loop μ-loop
 loop-again c =
     let l = c .before .before .before .before .before .loop in
     let a = c .before .before .before .before .before .before .before .args in
-    let k = oneTable (a .table .now) (a .words .now) (a .rounds) in (
+    let k = standard (a .words .now) (a .rounds) in (
       omega arith,
       search needs,
       c .before .before .step .ensures ∙ ap (step k (a .n * a .j + (l .m + 1)) (l .m + 1)) (l .inv .2) ∙ sym (pass-more k (a .n) (a .j) (a .w .now) (l .m)),
@@ -61,7 +61,7 @@ returns c =
     let l = c .before .loop in
     let a = c .before .before .before .args in
     let e : l .m ≡ a .n = omega arith in
-    l .inv .2 ∙ ap (λ (x : ℕ). pass (oneTable (a .table .now) (a .words .now) (a .rounds)) (a .n) (a .j) x (a .w .now)) e
+    l .inv .2 ∙ ap (λ (x : ℕ). pass (standard (a .words .now) (a .rounds)) (a .n) (a .j) x (a .w .now)) e
 
 pub pass-spec : {M : Type 1} → statement M
 pass-spec =

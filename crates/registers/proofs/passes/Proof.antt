@@ -3,7 +3,7 @@ use mathlib.Core.Bool.{true}
 use Prim.Native.Nat.{ℕ, _-_, _/_, _≤_}
 use lib.ListN.{length}
 use borrow.Author.Tests.{not-true, not-false}
-use Rattle.lookups.specs.Lookups.{oneTable}
+use Rattle.fips197.specs.Cipher.{standard}
 use Rattle.rfc3394.specs.Wrap.{pass, passes}
 use Rattle.wrap_answers.specs.Answers.{wrappedSizeFits}
 use Rattle.wrap_answers.proofs.Sizes.{wrapped-size-parts}
@@ -15,10 +15,10 @@ use Rattle.registers.proofs.passes.Statement.{statement}
 use Rattle.registers.proofs.passes.Tie as tie
 
 abbrev Inv-loop : tie.InvT-loop
-Inv-loop table words rounds w₀ n j₀ w j = (j ≤ 6) × (length w ≡ length w₀) × (w ≡ passes (oneTable table words rounds) n j w₀)
+Inv-loop words rounds w₀ n j₀ w j = (j ≤ 6) × (length w ≡ length w₀) × (w ≡ passes (standard words rounds) n j w₀)
 
 abbrev μ-loop : tie.MeasureT-loop
-μ-loop table words rounds w₀ n j₀ w j = 6 - j
+μ-loop words rounds w₀ n j₀ w j = 6 - j
 
 -- the length is in the rule
 fits : (i : tie.Else1 Inv-loop μ-loop) → wrappedSizeFits (length (i .before .before .before .args .w .now)) ≡ true
@@ -30,7 +30,7 @@ wrapped-size-fits-requires c κs = search needs
 returns : tie.Need-returns Inv-loop μ-loop
 returns c =
     let a = c .before .before .before .args in
-    passed-wrong (oneTable (a .table .now) (a .words .now) (a .rounds)) (a .w .now) (sym (c .before .wrapped-size-fits .ensures) ∙ not-true _ (c .if1 .taken))
+    passed-wrong (standard (a .words .now) (a .rounds)) (a .w .now) (sym (c .before .wrapped-size-fits .ensures) ∙ not-true _ (c .if1 .taken))
 
 sub-n : tie.Need-sub-n Inv-loop μ-loop
 sub-n c = omega (arith, wrapped-size-parts (length (c .before .before .before .args .w .now)) (fits c) .0)
@@ -38,7 +38,7 @@ sub-n c = omega (arith, wrapped-size-parts (length (c .before .before .before .a
 loop-holds : tie.Need-loop-holds Inv-loop μ-loop
 loop-holds c =
     let a = c .before .before .before .args in
-    (omega arith, refl, passes-none (oneTable (a .table .now) (a .words .now) (a .rounds)) (length (a .w .now) / 8 - 1) (a .w .now))
+    (omega arith, refl, passes-none (standard (a .words .now) (a .rounds)) (length (a .w .now) / 8 - 1) (a .w .now))
 
 pass-requires : tie.Need-pass-requires Inv-loop μ-loop
 pass-requires c κs =
@@ -56,7 +56,7 @@ loop-again : tie.Need-loop-again Inv-loop μ-loop
 loop-again c =
     let l = c .before .before .before .before .before .loop in
     let a = c .before .before .before .before .before .before .before .before .before .args in
-    let k = oneTable (a .table .now) (a .words .now) (a .rounds) in
+    let k = standard (a .words .now) (a .rounds) in
     let n = length (a .w .now) / 8 - 1 in (
       omega arith,
       search needs,
@@ -71,7 +71,7 @@ returns-2 c =
     let l = c .before .loop in
     let i = c .before .before in
     let a = i .before .before .before .args in
-    let k = oneTable (a .table .now) (a .words .now) (a .rounds) in
+    let k = standard (a .words .now) (a .rounds) in
     let n = length (a .w .now) / 8 - 1 in
     let e : l .j ≡ 6 = omega arith in
     l .inv .2 ∙ ap (λ (x : ℕ). passes k n x (a .w .now)) e ∙ passed-right k (a .w .now) (fits i)

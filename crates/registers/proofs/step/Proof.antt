@@ -1,7 +1,7 @@
 use mathlib.Core.Path.{_≡_, ap, _∙_}
 use lib.ListN.{length}
-use Rattle.octets.specs.Octets.{entry}
-use Rattle.lookups.specs.Lookups.{tableEncrypt, oneTable}
+use Rattle.fips197.specs.Cipher.{encryptBlock, standard}
+use Rattle.sbox.specs.Sbox.{sBox}
 use Rattle.rfc3394.proofs.Passing.{step-by}
 use borrow.Author.Needs.{needs}
 use Rattle.registers.proofs.step.Statement.{statement}
@@ -30,8 +30,8 @@ returns c =
     let a = s .args in
     let n : length (e .result) ≡ 16 = search needs in
     b .ensures
-    ∙ step-by (oneTable (a .table .now) (a .words .now) (a .rounds)) (a .t) (a .i) (a .w .now) (e .result) (c .before .before .before .counted .result)
-    (e .ensures ∙ ap (tableEncrypt (entry (a .table .now)) (a .words .now) (a .rounds)) (c .before .before .before .before .before .before .pair .ensures)) n (c .before .before .before .counted .ensures)
+    ∙ step-by (standard (a .words .now) (a .rounds)) (a .t) (a .i) (a .w .now) (e .result) (c .before .before .before .counted .result)
+    (e .ensures ∙ ap (encryptBlock sBox (a .words .now) (a .rounds)) (c .before .before .before .before .before .before .pair .ensures)) n (c .before .before .before .counted .ensures)
 
 pub step-spec : {M : Type 1} → statement M
 step-spec =

@@ -1,7 +1,7 @@
 use mathlib.Core.Path.{_≡_, refl, sym, ap, _∙_}
 use Prim.Native.Nat.{ℕ, _*_, _-_, _≤_}
 use lib.ListN.{length}
-use Rattle.lookups.specs.Lookups.{oneTable}
+use Rattle.fips197.specs.Equivalent.{oneWay}
 use Rattle.rfc3394.specs.Wrap.{unpass}
 use Rattle.registers.proofs.Sizes.{product-fits}
 use Rattle.rfc3394.proofs.Passing.{unpass-none, unpass-more}
@@ -11,10 +11,10 @@ use Rattle.registers.proofs.unpass.Statement.{statement}
 use Rattle.registers.proofs.unpass.Tie as tie
 
 abbrev Inv-loop : tie.InvT-loop
-Inv-loop table words rounds n j w₀ i₀ w i = (i ≤ n) × (length w ≡ length w₀) × (unpass (oneTable table words rounds) n j i w ≡ unpass (oneTable table words rounds) n j n w₀)
+Inv-loop words rounds n j w₀ i₀ w i = (i ≤ n) × (length w ≡ length w₀) × (unpass (oneWay words rounds) n j i w ≡ unpass (oneWay words rounds) n j n w₀)
 
 abbrev μ-loop : tie.MeasureT-loop
-μ-loop table words rounds n j w₀ i₀ w i = i
+μ-loop words rounds n j w₀ i₀ w i = i
 
 -- a step number is one byte
 small : (g : tie.In-loop Inv-loop μ-loop) → g .before .before .before .args .n * g .before .before .before .args .j ≤ 40
@@ -42,7 +42,7 @@ loop-again : tie.Need-loop-again Inv-loop μ-loop
 loop-again c =
     let l = c .before .before .before .before .before .loop in
     let a = c .before .before .before .before .before .before .before .args in
-    let k = oneTable (a .table .now) (a .words .now) (a .rounds) in (
+    let k = oneWay (a .words .now) (a .rounds) in (
       omega arith,
       search needs,
       ap (unpass k (a .n) (a .j) (l .i - 1)) (c .before .before .unstep .ensures) ∙ unpass-more k (a .n) (a .j) (l .w) (l .i) (omega arith) ∙ l .inv .2,
@@ -55,7 +55,7 @@ returns : tie.Need-returns Inv-loop μ-loop
 returns c =
     let l = c .before .loop in
     let a = c .before .before .before .args in
-    let k = oneTable (a .table .now) (a .words .now) (a .rounds) in
+    let k = oneWay (a .words .now) (a .rounds) in
     let e : l .i ≡ 0 = omega arith in
     sym (unpass-none k (a .n) (a .j) (l .w)) ∙ ap (λ (x : ℕ). unpass k (a .n) (a .j) x (l .w)) (sym e) ∙ l .inv .2
 

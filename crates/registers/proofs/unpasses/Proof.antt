@@ -3,7 +3,7 @@ use mathlib.Core.Bool.{true}
 use Prim.Native.Nat.{ℕ, _-_, _/_, _≤_}
 use lib.ListN.{length}
 use borrow.Author.Tests.{not-true, not-false}
-use Rattle.lookups.specs.Lookups.{oneTable}
+use Rattle.fips197.specs.Equivalent.{oneWay}
 use Rattle.rfc3394.specs.Wrap.{unpasses}
 use Rattle.wrap_answers.specs.Answers.{wrappedSizeFits}
 use Rattle.wrap_answers.proofs.Sizes.{wrapped-size-parts}
@@ -15,10 +15,10 @@ use Rattle.registers.proofs.unpasses.Statement.{statement}
 use Rattle.registers.proofs.unpasses.Tie as tie
 
 abbrev Inv-loop : tie.InvT-loop
-Inv-loop table words rounds w₀ n j₀ w j = (j ≤ 6) × (length w ≡ length w₀) × (unpasses (oneTable table words rounds) n j w ≡ unpasses (oneTable table words rounds) n 6 w₀)
+Inv-loop words rounds w₀ n j₀ w j = (j ≤ 6) × (length w ≡ length w₀) × (unpasses (oneWay words rounds) n j w ≡ unpasses (oneWay words rounds) n 6 w₀)
 
 abbrev μ-loop : tie.MeasureT-loop
-μ-loop table words rounds w₀ n j₀ w j = j
+μ-loop words rounds w₀ n j₀ w j = j
 
 -- the length is in the rule
 fits : (i : tie.Else1 Inv-loop μ-loop) → wrappedSizeFits (length (i .before .before .before .args .w .now)) ≡ true
@@ -30,7 +30,7 @@ wrapped-size-fits-requires c κs = search needs
 returns : tie.Need-returns Inv-loop μ-loop
 returns c =
     let a = c .before .before .before .args in
-    unpassed-wrong (oneTable (a .table .now) (a .words .now) (a .rounds)) (a .w .now) (sym (c .before .wrapped-size-fits .ensures) ∙ not-true _ (c .if1 .taken))
+    unpassed-wrong (oneWay (a .words .now) (a .rounds)) (a .w .now) (sym (c .before .wrapped-size-fits .ensures) ∙ not-true _ (c .if1 .taken))
 
 sub-n : tie.Need-sub-n Inv-loop μ-loop
 sub-n c = omega (arith, wrapped-size-parts (length (c .before .before .before .args .w .now)) (fits c) .0)
@@ -54,7 +54,7 @@ loop-again : tie.Need-loop-again Inv-loop μ-loop
 loop-again c =
     let l = c .before .before .before .before .before .loop in
     let a = c .before .before .before .before .before .before .before .before .before .args in
-    let k = oneTable (a .table .now) (a .words .now) (a .rounds) in
+    let k = oneWay (a .words .now) (a .rounds) in
     let n = length (a .w .now) / 8 - 1 in (
       omega arith,
       search needs,
@@ -69,7 +69,7 @@ returns-2 c =
     let l = c .before .loop in
     let i = c .before .before in
     let a = i .before .before .before .args in
-    let k = oneTable (a .table .now) (a .words .now) (a .rounds) in
+    let k = oneWay (a .words .now) (a .rounds) in
     let n = length (a .w .now) / 8 - 1 in
     let e : l .j ≡ 0 = omega arith in
     sym (unpasses-none k n (l .w)) ∙ ap (λ (x : ℕ). unpasses k n x (l .w)) (sym e) ∙ l .inv .2

@@ -1,5 +1,5 @@
 use mathlib.Core.Path.{_∙_}
-use Rattle.lookups.specs.Lookups.{oneTable}
+use Rattle.fips197.specs.Equivalent.{oneWay}
 use Rattle.rfc3394.proofs.Passing.{unstep-by}
 use native.Mathlib.Omega.{arith}
 use borrow.Author.Needs.{needs}
@@ -30,7 +30,7 @@ returns c =
     let s = c .before .before .before .before .before .before .before .before .before in
     let a = s .args in
     b .ensures
-    ∙ unstep-by (oneTable (a .table .now) (a .words .now) (a .rounds)) (a .t) (a .i) (a .w .now) (p .result) (x .result) (d .result) (omega (arith, s .pre .1)) (p .ensures) (x .ensures) (d .ensures)
+    ∙ unstep-by (oneWay (a .words .now) (a .rounds)) (a .t) (a .i) (a .w .now) (p .result) (x .result) (d .result) (omega (arith, s .pre .1)) (p .ensures) (x .ensures) (d .ensures)
 
 pub unstep-spec : {M : Type 1} → statement M
 unstep-spec =

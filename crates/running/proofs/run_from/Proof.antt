@@ -1,6 +1,6 @@
 use Prim.Native.Nat.{_*_}
 use denote.Ref.{now}
-use Rattle.lookups.specs.Lookups.{oneTable}
+use Rattle.fips197.specs.Cipher.{standard}
 use Rattle.sp800_38b.proofs.Filling.{to-end}
 use Rattle.running.proofs.Laws.{taken-holding}
 use borrow.Author.Needs.{needs}
@@ -32,7 +32,7 @@ returns : tie.Need-returns
 returns c =
     let a = c .before .before .before .before .before .args in
     let n = c .before .before .before .before-last .result in
-    taken-holding (oneTable (now (a .table)) (now (a .words)) (a .rounds)) (a .chain) (now (a .part)) n _ _ _
+    taken-holding (standard (now (a .words)) (a .rounds)) (a .chain) (now (a .part)) n _ _ _
     (c .before .before .before .before-last .ensures) (c .before .before .chained .ensures) (to-end (now (a .part)) (n * 16)) (c .filled .ensures)
 
 pub run-from-spec : {M : Type 1} → statement M

@@ -1,4 +1,4 @@
-use Rattle.lookups.specs.Lookups.{oneTable}
+use Rattle.fips197.specs.Cipher.{standard}
 use Rattle.format.specs.Lent.{lentMac}
 use Rattle.format.proofs.Sealing.{seal-long, seal-short, seal-fits}
 use borrow.Author.Needs.{needs}
@@ -8,12 +8,12 @@ use Rattle.seal.proofs.seal.Tie as tie
 returns : tie.Need-returns
 returns c =
     let a = c .before .before .before .before .args in
-    seal-long (oneTable (a .forth .now) (a .ewords .now) (a .rounds .enc)) (lentMac (a .forth .now) (a .cwords .now) (a .rounds .chk) (a .key1 .now) (a .key2 .now)) (a .tail .now) (a .head) (a .payload .now) (a .output .now) (c .if1 .taken)
+    seal-long (standard (a .ewords .now) (a .rounds .enc)) (lentMac (a .cwords .now) (a .rounds .chk) (a .key1 .now) (a .key2 .now)) (a .tail .now) (a .head) (a .payload .now) (a .output .now) (c .if1 .taken)
 
 returns-2 : tie.Need-returns-2
 returns-2 c =
     let a = c .before .before .before .before .before .args in
-    seal-short (oneTable (a .forth .now) (a .ewords .now) (a .rounds .enc)) (lentMac (a .forth .now) (a .cwords .now) (a .rounds .chk) (a .key1 .now) (a .key2 .now)) (a .tail .now) (a .head) (a .payload .now) (a .output .now) (c .before .if1 .left) (c .if2 .taken)
+    seal-short (standard (a .ewords .now) (a .rounds .enc)) (lentMac (a .cwords .now) (a .rounds .chk) (a .key1 .now) (a .key2 .now)) (a .tail .now) (a .head) (a .payload .now) (a .output .now) (c .before .if1 .left) (c .if2 .taken)
 
 seal-into-requires : tie.Need-seal-into-requires
 seal-into-requires c κs = search needs
@@ -25,7 +25,7 @@ returns-3 : tie.Need-returns-3
 returns-3 c =
     let f = c .before .before .before .before in
     let a = f .before .before .before .before .before .args in
-    seal-fits (oneTable (a .forth .now) (a .ewords .now) (a .rounds .enc)) (lentMac (a .forth .now) (a .cwords .now) (a .rounds .chk) (a .key1 .now) (a .key2 .now)) (a .tail .now) (a .head) (a .payload .now) (a .output .now) (f .before .if1 .left) (f .if2 .left) _ (c .before .before .seal-into .ensures)
+    seal-fits (standard (a .ewords .now) (a .rounds .enc)) (lentMac (a .cwords .now) (a .rounds .chk) (a .key1 .now) (a .key2 .now)) (a .tail .now) (a .head) (a .payload .now) (a .output .now) (f .before .if1 .left) (f .if2 .left) _ (c .before .before .seal-into .ensures)
 
 pub seal-spec : {M : Type 1} → statement M
 seal-spec =

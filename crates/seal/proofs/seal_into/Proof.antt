@@ -1,5 +1,6 @@
 use Rattle.format.proofs.Sealing.{seal-by, middle-size}
-use Rattle.lookups.specs.Lookups.{oneTable}
+use Rattle.fips197.specs.Cipher.{standard}
+use Rattle.fips197.specs.Equivalent.{oneWay}
 use Rattle.format.specs.Lent.{lentMac}
 use Rattle.pieces.proofs.Agree.{through-whole}
 use Rattle.sp800_38a.specs.declared.Operation.the-variants.{CbcEncrypt}
@@ -79,9 +80,9 @@ returns c =
     let first = cp .before .before .before .head-bytes .ensures in
     let size : length plain ≡ 480 = ap length filled ∙ length-padTo 480 (a .payload .now) (s .pre .0) in
     let room : length (take 480 (drop 16 o1)) ≡ 480 = middle-size (a .head) (a .output .now) o1 (s .pre .1) (st .store .ensures ∙ ap (blockPut (a .output .now) 0) first) in
-    let w = through-whole (oneTable (a .forth .now) (a .ewords .now) (a .rounds .enc)) CbcEncrypt _ plain (take 480 (drop 16 o1)) (omega arith) (size ∙ sym room) in
-    seal-by (oneTable (a .forth .now) (a .ewords .now) (a .rounds .enc)) (lentMac (a .forth .now) (a .cwords .now) (a .rounds .chk) (a .key1 .now) (a .key2 .now)) (a .tail .now) (a .head) (a .payload .now) (a .output .now) (s .pre .0) (s .pre .1)
-    _ _ _ _ _ _ _ _ first (cp .before .before .encrypt-block .ensures) filled (st .store .ensures) (ap (λ (t : List ℕ × List ℕ). t .1) (rn .run .ensures ∙ w)) (rn .run .kept .1 .1 .1 .1 .1 .1 .0 ∙ room) refl
+    let w = through-whole (oneWay (a .ewords .now) (a .rounds .enc)) CbcEncrypt _ plain (take 480 (drop 16 o1)) (omega arith) (size ∙ sym room) in
+    seal-by (standard (a .ewords .now) (a .rounds .enc)) (lentMac (a .cwords .now) (a .rounds .chk) (a .key1 .now) (a .key2 .now)) (a .tail .now) (a .head) (a .payload .now) (a .output .now) (s .pre .0) (s .pre .1)
+    _ _ _ _ _ _ _ _ first (cp .before .before .encrypt-block .ensures) filled (st .store .ensures) (ap (λ (t : List ℕ × List ℕ). t .1) (rn .run .ensures ∙ w)) (rn .run .kept .1 .1 .1 .1 .1 .0 ∙ room) refl
     (ck .check-of .ensures) (ck .check-of .ok .1 .0 .1) (st2 .store2 .ensures)
 
 pub seal-into-spec : {M : Type 1} → statement M

@@ -1,5 +1,5 @@
-use Rattle.lookups.proofs.ByColumns.{same-columns}
-use Rattle.lookups.specs.Columns.{columnsOf}
+use Rattle.states.proofs.ByColumns.{same-columns}
+use Rattle.states.specs.Columns.{columnsOf}
 use borrow.Author.Needs.{needs}
 use Rattle.states.proofs.load.Statement.{statement}
 use Rattle.states.proofs.load.Tie as tie

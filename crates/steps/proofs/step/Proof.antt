@@ -1,7 +1,7 @@
 use mathlib.Core.Path.{_≡_, refl, ap, _∙_}
 use denote.Ref.{now}
 use Rattle.octets.specs.Blocks.{_⊕_}
-use Rattle.lookups.specs.Lookups.{oneTable}
+use Rattle.fips197.specs.Equivalent.{oneWay}
 use Rattle.sp800_38a.specs.Modes.{machine}
 use Rattle.sp800_38a.specs.declared.Operation.the-variants.{EcbEncrypt, EcbDecrypt, CbcEncrypt, CbcDecrypt, CfbEncrypt, CfbDecrypt, Ofb}
 use Rattle.steps.proofs.Told.{stepped}
@@ -69,45 +69,45 @@ xor-requires-5 c κs = search needs
 returns : tie.Need-returns
 returns c =
     let a = c .before .before .before .args in
-    let e = oneTable (now (a .table)) (now (a .words)) (a .rounds) in
+    let e = oneWay (now (a .words)) (a .rounds) in
     stepped e (a .operation) EcbEncrypt (a .chain) (a .piece) _ _ (c .before .enum-told .given .1) (c .encrypt-block .ensures) refl
 
 returns-2 : tie.Need-returns-2
 returns-2 c =
     let a = c .before .before .before .args in
-    let e = oneTable (now (a .table)) (now (a .words)) (a .rounds) in
+    let e = oneWay (now (a .words)) (a .rounds) in
     stepped e (a .operation) EcbDecrypt (a .chain) (a .piece) _ _ (c .before .enum-told2 .given .1) (c .decrypt-block .ensures) refl
 
 returns-3 : tie.Need-returns-3
 returns-3 c =
     let a = c .before .before .before .before .args in
-    let e = oneTable (now (a .table)) (now (a .words)) (a .rounds) in
+    let e = oneWay (now (a .words)) (a .rounds) in
     let f : _ ≡ machine e CbcEncrypt .out (a .chain) (a .piece) = c .encrypt-block2 .ensures ∙ ap (e .enc) (c .before .xor .ensures) in
     stepped e (a .operation) CbcEncrypt (a .chain) (a .piece) _ _ (c .before .before .enum-told3 .given .1) f f
 
 returns-4 : tie.Need-returns-4
 returns-4 c =
     let a = c .before .before .before .before .args in
-    let e = oneTable (now (a .table)) (now (a .words)) (a .rounds) in
+    let e = oneWay (now (a .words)) (a .rounds) in
     stepped e (a .operation) CbcDecrypt (a .chain) (a .piece) _ _ (c .before .before .enum-told4 .given .1) (c .xor2 .ensures ∙ ap (_⊕ a .chain) (c .before .decrypt-block2 .ensures)) refl
 
 returns-5 : tie.Need-returns-5
 returns-5 c =
     let a = c .before .before .before .before .args in
-    let e = oneTable (now (a .table)) (now (a .words)) (a .rounds) in
+    let e = oneWay (now (a .words)) (a .rounds) in
     let f : _ ≡ machine e CfbEncrypt .out (a .chain) (a .piece) = c .xor3 .ensures ∙ ap (a .piece ⊕_) (c .before .encrypt-block3 .ensures) in
     stepped e (a .operation) CfbEncrypt (a .chain) (a .piece) _ _ (c .before .before .enum-told5 .given .1) f f
 
 returns-6 : tie.Need-returns-6
 returns-6 c =
     let a = c .before .before .before .before .args in
-    let e = oneTable (now (a .table)) (now (a .words)) (a .rounds) in
+    let e = oneWay (now (a .words)) (a .rounds) in
     stepped e (a .operation) CfbDecrypt (a .chain) (a .piece) _ _ (c .before .before .enum-told6 .given .1) (c .xor4 .ensures ∙ ap (a .piece ⊕_) (c .before .encrypt-block4 .ensures)) refl
 
 returns-7 : tie.Need-returns-7
 returns-7 c =
     let a = c .before .before .before .before .args in
-    let e = oneTable (now (a .table)) (now (a .words)) (a .rounds) in
+    let e = oneWay (now (a .words)) (a .rounds) in
     stepped e (a .operation) Ofb (a .chain) (a .piece) _ _ (c .before .before .enum-told7 .given .1) (c .xor5 .ensures ∙ ap (a .piece ⊕_) (c .before .encrypt-block5 .ensures)) (c .before .encrypt-block5 .ensures)
 
 pub step-spec : {M : Type 1} → statement M

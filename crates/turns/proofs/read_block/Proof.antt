@@ -1,5 +1,5 @@
 use mathlib.Core.Path.{sym, ap, _∙_}
-use Rattle.octets.specs.Octets.{entry}
+use Rattle.sbox.specs.Sbox.{sBox, invSBox}
 use Rattle.reasons.specs.declared.Verdict.{Verdict}
 use Rattle.format.specs.Lent.{lentKeys}
 use Rattle.format.specs.Sealed.{opened}
@@ -41,11 +41,11 @@ returns c =
     let g = st .before .before in
     let s = g .before .before .before in
     let a = s .args in
-    let k = (lentKeys (a .forth .now) (a .back .now) (a .ewords .now) (a .dwords .now) (a .cwords .now) (a .key1 .now) (a .key2 .now) (a .rounds)) in
+    let k = lentKeys (a .ewords .now) (a .dwords .now) (a .cwords .now) (a .key1 .now) (a .key2 .now) (a .rounds) in
     let b = a .block .now in
     let v = verdict-read k (a .done .progress) b _ (g .judge .ensures) in
-    let es = encrypt-sized (entry (a .forth .now)) (a .ewords .now) (a .rounds .enc) in
-    let ds = decrypt-sized (entry (a .back .now)) (a .dwords .now) (a .rounds .enc) in (
+    let es = encrypt-sized sBox (a .ewords .now) (a .rounds .enc) in
+    let ds = decrypt-sized invSBox (a .dwords .now) (a .rounds .enc) in (
       st .step .ensures ∙ stepped-by (a .done) _ _ _ _ _ _ v (head-read k (a .done .progress) b _ (g .judge .ensures) (s .pre .0)) (check-is b _ (s .pre .0) (st .before .load .ensures)),
       open-part (k .enc) b (a .part .now) (s .pre .0) (s .pre .1) es ds _ (ob .open-block .ensures) ∙ sym (ap (λ (x : Verdict). partAfter x (opened (k .enc) b) (a .part .now)) (sym v ∙ t .enum-told .given .1)),
     )
@@ -56,7 +56,7 @@ returns-2 c =
     let g = st .before .before in
     let s = g .before .before .before in
     let a = s .args in
-    let k = (lentKeys (a .forth .now) (a .back .now) (a .ewords .now) (a .dwords .now) (a .cwords .now) (a .key1 .now) (a .key2 .now) (a .rounds)) in
+    let k = lentKeys (a .ewords .now) (a .dwords .now) (a .cwords .now) (a .key1 .now) (a .key2 .now) (a .rounds) in
     let b = a .block .now in
     let v = verdict-read k (a .done .progress) b _ (g .judge .ensures) in (
       st .step .ensures ∙ stepped-by (a .done) _ _ _ _ _ _ v (head-read k (a .done .progress) b _ (g .judge .ensures) (s .pre .0)) (check-is b _ (s .pre .0) (st .before .load .ensures)),

@@ -2,7 +2,7 @@ use mathlib.Core.Path.{_≡_, refl, sym, ap, _∙_}
 use mathlib.Core.List.{List}
 use Prim.Native.Nat.{ℕ, _≤_, _*_}
 use lib.ListN.{length}
-use Rattle.octets.specs.Octets.{entry}
+use Rattle.sbox.specs.Sbox.{sBox, invSBox}
 use Rattle.layout.specs.Layout.{headOf}
 use Rattle.progress.specs.declared.Progress.{Progress}
 use Rattle.format.specs.Judge.{Keys, either, ofBoth}
@@ -21,13 +21,13 @@ use Rattle.turns.proofs.read_blocks.Statement.{statement}
 use Rattle.turns.proofs.read_blocks.Tie as tie
 
 abbrev Inv-loop : tie.InvT-loop
-Inv-loop forth back ewords dwords cwords key1 key2 rounds blocks k output₀ done₀ output done =
+Inv-loop ewords dwords cwords key1 key2 rounds blocks k output₀ done₀ output done =
     (done .accepted ≤ k) × (length output ≡ length output₀) × (done .bytes ≤ done .accepted * 65535)
-    × (ahead (ofBoth (lentKeys forth back ewords dwords cwords key1 key2 rounds)) blocks k done output
-    ≡ finish 0 0 output₀ (readBlocks (ofBoth (lentKeys forth back ewords dwords cwords key1 key2 rounds)) (done₀ .progress) (cut k blocks)))
+    × (ahead (ofBoth (lentKeys ewords dwords cwords key1 key2 rounds)) blocks k done output
+    ≡ finish 0 0 output₀ (readBlocks (ofBoth (lentKeys ewords dwords cwords key1 key2 rounds)) (done₀ .progress) (cut k blocks)))
 
 abbrev μ-loop : tie.MeasureT-loop
-μ-loop forth back ewords dwords cwords key1 key2 rounds blocks k output₀ done₀ output done = toGo done k
+μ-loop ewords dwords cwords key1 key2 rounds blocks k output₀ done₀ output done = toGo done k
 
 blocks-read-requires : tie.Need-blocks-read-requires Inv-loop μ-loop
 blocks-read-requires c κs = search needs
@@ -36,7 +36,7 @@ loop-holds : tie.Need-loop-holds Inv-loop μ-loop
 loop-holds c =
     let a = c .before .before .before .args in
     let e = c .blocks-read .ensures in
-    let k = (lentKeys (a .forth .now) (a .back .now) (a .ewords .now) (a .dwords .now) (a .cwords .now) (a .key1 .now) (a .key2 .now) (a .rounds)) in (
+    let k = lentKeys (a .ewords .now) (a .dwords .now) (a .cwords .now) (a .key1 .now) (a .key2 .now) (a .rounds) in (
       omega (arith, ap (λ (x : BlocksRead). x .accepted) e),
       refl,
       omega (arith, ap (λ (x : BlocksRead). x .bytes) e),
@@ -53,7 +53,7 @@ start g = g .before .before .before .before .before .before .before
 abbrev keys : Going → Keys
 keys g =
     let a = start g .args in
-    lentKeys (a .forth .now) (a .back .now) (a .ewords .now) (a .dwords .now) (a .cwords .now) (a .key1 .now) (a .key2 .now) (a .rounds)
+    lentKeys (a .ewords .now) (a .dwords .now) (a .cwords .now) (a .key1 .now) (a .key2 .now) (a .rounds)
 
 ready : (g : Going) → Ready (ofBoth (keys g)) (start g .args .blocks .now) (start g .args .k) (g .before .before .before .loop .done) (g .before .before .before .loop .output)
 ready g =
@@ -69,7 +69,7 @@ ready g =
       there = omega (arith, s .pre .0, on .1);
       room = omega (arith, l .inv .1, s .pre .1, on .1);
       bytes = λ j. omega (arith, g .before .before .before .before .before .before .shared-slice-known .given j);
-      sized = λ b e. opened-size b e (keys g .enc) (encrypt-sized (entry (a .forth .now)) (a .ewords .now) (a .rounds .enc)) (decrypt-sized (entry (a .back .now)) (a .dwords .now) (a .rounds .enc));
+      sized = λ b e. opened-size b e (keys g .enc) (encrypt-sized sBox (a .ewords .now) (a .rounds .enc)) (decrypt-sized invSBox (a .dwords .now) (a .rounds .enc));
       small = λ b. accepted-next (keys g) (either (l .done .progress) (headOf b .reserved)) (l .done .progress) b;
     }
 
@@ -132,7 +132,7 @@ returns c =
     let l = g .before .loop in
     let br = g .before .before in
     let a = br .before .before .before .args in
-    let k = (lentKeys (a .forth .now) (a .back .now) (a .ewords .now) (a .dwords .now) (a .cwords .now) (a .key1 .now) (a .key2 .now) (a .rounds)) in
+    let k = lentKeys (a .ewords .now) (a .dwords .now) (a .cwords .now) (a .key1 .now) (a .key2 .now) (a .rounds) in
     let w = readBlocks (ofBoth k) (a .progress) (cut (a .k) (a .blocks .now)) in
     let e = ahead-end (ofBoth k) (a .blocks .now) (a .k) (l .done) (l .output) (sym (g .goes-on .ensures) ∙ c .if1 .left) ∙ l .inv .3
     ∙ ap (λ (x : BlocksRead). finish 0 0 (a .output .now) (readBlocks (ofBoth k) (x .progress) (cut (a .k) (a .blocks .now)))) (br .blocks-read .ensures) ∙ finish-start (a .output .now) w in

@@ -1,21 +1,14 @@
-use mir.Syntax.{w8}
 use mathlib.Core.Path.{ap, _∙_}
 use Rattle.octets.specs.Octets.{Bytes, over}
 use Rattle.turns.specs.Turn.{Reading, blocksRead}
 use Rattle.turns.proofs.Agree.{reading-is}
 use native.Mathlib.Omega.{arith}
-use borrow.Author.Needs.{needs, elem-fits-field}
+use borrow.Author.Needs.{needs}
 use Rattle.turns.proofs.read_under.Statement.{statement}
 use Rattle.turns.proofs.read_under.Tie as tie
 
 inverse-words-requires : tie.Need-inverse-words-requires
 inverse-words-requires c κs = search needs
-
-forward-table-requires : tie.Need-forward-table-requires
-forward-table-requires c κs = search needs
-
-inverse-table-requires : tie.Need-inverse-table-requires
-inverse-table-requires c κs = search needs
 
 key1-requires : tie.Need-key1-requires
 key1-requires c κs = search needs
@@ -32,15 +25,13 @@ same-length c = search needs
 returns : tie.Need-returns
 returns c =
     let rn = c .before .before in
-    let k2 = rn .before .before .before .before .before .before .before in
-    let it = k2 .before .before .before in
-    let iw = it .before .before in
+    let k2 = rn .before .before .before .before .before in
+    let iw = k2 .before .before in
     let s = iw .before .before .before .before in
     let a = s .args in
     let b : Bytes (a .blocks .now) = λ i. omega (arith, iw .before .before .before .shared-slice-known .given i) in
-    let bs : Bytes (a .progress .last) = λ i. elem-fits-field w8 w8 (a .progress .last) _ i (s .good .1 .1 .1 .0 .1 .1 .1 .1 .1 .1 .0 .1 .1) tt .fits in
-    let e = reading-is _ _ _ _ _ (it .before .forward-table .ensures) (it .inverse-table .ensures) (a .ewords .now) (a .cwords .now) (a .rounds) (iw .inverse-words .ensures) (k2 .before .key1 .ensures) (k2 .key2 .ensures)
-    (a .k) (a .progress) (a .blocks .now) bs (s .pre .0) b in
+    let e = reading-is _ _ _ (a .ewords .now) (a .cwords .now) (a .rounds) (iw .inverse-words .ensures) (k2 .before .key1 .ensures) (k2 .key2 .ensures)
+    (a .k) (a .progress) (a .blocks .now) (s .pre .0) b in
     (rn .read-blocks .ensures .0 ∙ ap blocksRead e, rn .read-blocks .ensures .1 ∙ ap (λ (x : Reading). over (x .out) (a .output .now)) e)
 
 pub read-under-spec : {M : Type 1} → statement M
@@ -48,8 +39,6 @@ read-under-spec =
     tie.close
     (tie.spec
     inverse-words-requires
-    forward-table-requires
-    inverse-table-requires
     key1-requires
     key2-requires
     read-blocks-requires

@@ -4,9 +4,12 @@ use mathlib.Core.Path.{_≡_, refl, sym, ap, ap₂, _∙_}
 use denote.Ref.{now}
 use lib.ListN.{length, drop}
 use lib.Seq.{paste}
-use Rattle.lookups.specs.Lookups.{oneTable}
+use Rattle.fips197.specs.Equivalent.{oneWay}
 use Rattle.sp800_38a.specs.Modes.{machine}
-use Rattle.sp800_38a.specs.Pieces.{piece, outputOf, after}
+use Rattle.sp800_38a.specs.Pieces.{piece, outputOf, after, ran}
+use Rattle.sp800_38a.specs.declared.Operation.{Operation}
+use Rattle.sp800_38a.specs.declared.Operation.the-variants.{CbcDecrypt}
+use Rattle.whole_pieces.specs.Whole.{ranWhole}
 use Rattle.blocks.proofs.Laws.{block-at, block-put}
 use Rattle.steps.specs.declared.Stepped.{Stepped}
 use Rattle.steps.specs.Step.{stepOf}
@@ -17,16 +20,37 @@ use Rattle.whole_pieces.proofs.in_order.Statement.{statement}
 use Rattle.whole_pieces.proofs.in_order.Tie as tie
 
 abbrev Inv-loop : tie.InvT-loop
-Inv-loop table words rounds operation input output₀ both n chain₀ i₀ output chain i =
-    let m = machine (oneTable table words rounds) operation in
+Inv-loop words rounds operation input output₀ both n chain₀ i₀ output chain i =
+    let m = machine (oneWay words rounds) operation in
     (i ≤ n) × (length output ≡ length output₀) × (length (outputOf 16 m chain₀ i input) ≡ i * 16)
     × (chain ≡ after 16 m chain₀ i input) × (output ≡ outputOf 16 m chain₀ i input ++ drop (i * 16) output₀)
 
 abbrev μ-loop : tie.MeasureT-loop
-μ-loop table words rounds operation input output₀ both n chain₀ i₀ output chain i = n - i
+μ-loop words rounds operation input output₀ both n chain₀ i₀ output chain i = n - i
 
 shorter-requires : tie.Need-shorter-requires Inv-loop μ-loop
 shorter-requires c κs = search needs
+
+enum-told : tie.Need-enum-told Inv-loop μ-loop
+enum-told c = search needs
+
+opened-requires : tie.Need-opened-requires Inv-loop μ-loop
+opened-requires c κs =
+    let e = c .before .before .before .shorter .ensures in
+    (omega arith, omega arith)
+
+same-length : tie.Need-same-length Inv-loop μ-loop
+same-length c = search needs
+
+returns : tie.Need-returns Inv-loop μ-loop
+returns c =
+    let o = c .before .before in
+    let t = o .before .before in
+    let a = t .before .before .before .before .before .args in
+    let e = oneWay (now (a .words)) (a .rounds) in
+    o .opened .ensures
+    ∙ ap (λ (k : ℕ). ran 16 (machine e CbcDecrypt) (a .iv) (k / 16) (now (a .input)) (now (a .output))) (t .before .before .shorter .ensures)
+    ∙ ap (λ (v : Operation). ranWhole (machine e v) (a .iv) (now (a .input)) (now (a .output))) (sym (t .enum-told .given .1))
 
 loop-holds : tie.Need-loop-holds Inv-loop μ-loop
 unfolding outputOf after
@@ -58,9 +82,9 @@ loop-again c =
     let w = c .before .before .store in
     let k = c .before .before .before .before .before .before in
     let l = k .before .before .before .loop in
-    let a = k .before .before .before .before .before .before .before .args in
+    let a = k .before .before .before .before .before .before .before .before .args in
     let inp = now (a .input) in
-    let m = machine (oneTable (now (a .table)) (now (a .words)) (a .rounds)) (a .operation) in
+    let m = machine (oneWay (now (a .words)) (a .rounds)) (a .operation) in
     let st = after 16 m (a .iv) (l .i) inp in
     let f = k .step .result .out in
     let lf : length f ≡ 16 = search needs in
@@ -77,14 +101,14 @@ loop-again c =
       put ∙ write-more m (a .iv) inp (now (a .output)) (l .i) (l .output) (l .inv .2) lo (omega arith) (l .inv .4),
     )
 
-same-length : tie.Need-same-length Inv-loop μ-loop
-same-length c = search needs
+same-length-2 : tie.Need-same-length-2 Inv-loop μ-loop
+same-length-2 c = search needs
 
-returns : tie.Need-returns Inv-loop μ-loop
-returns c =
+returns-2 : tie.Need-returns-2 Inv-loop μ-loop
+returns-2 c =
     let l = c .before .loop in
-    let a = c .before .before .before .before .before .args in
-    let e : l .i ≡ min (length (now (a .input))) (length (now (a .output))) / 16 = omega (arith, c .before .before .shorter .ensures) in
+    let a = c .before .before .before .before .before .before .args in
+    let e : l .i ≡ min (length (now (a .input))) (length (now (a .output))) / 16 = omega (arith, c .before .before .before .shorter .ensures) in
     rw (← e, l .inv .3, l .inv .4)
 
 pub in-order-spec : {M : Type 1} → statement M
@@ -94,6 +118,10 @@ in-order-spec =
     Inv-loop
     μ-loop
     shorter-requires
+    enum-told
+    opened-requires
+    same-length
+    returns
     loop-holds
     mul-load
     load-requires
@@ -103,5 +131,5 @@ in-order-spec =
     add-i
     loop-less
     loop-again
-    same-length
-    returns)
+    same-length-2
+    returns-2)

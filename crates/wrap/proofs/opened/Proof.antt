@@ -2,7 +2,7 @@ use Rattle.slices.proofs.Laws.{copied-fits}
 use lib.ListN.{length}
 use Prim.Native.Nat.{_-_}
 use mathlib.Core.Path.{_∙_, refl}
-use Rattle.lookups.specs.Lookups.{oneTable}
+use Rattle.fips197.specs.Equivalent.{oneWay}
 use Rattle.wrap.proofs.Building.{opened-by, opened-size}
 use native.Mathlib.Omega.{arith}
 use borrow.Author.Needs.{needs}
@@ -33,9 +33,9 @@ returns c =
     let cp = c .before .before .before .before .copy in
     let s = c .before .before .before .before .before .before .before in
     let a = s .args in
-    let k = oneTable (a .table .now) (a .words .now) (a .rounds) in (
-      opened-by k (a .given .now) (s .pre .0) (s .pre .1) (s .pre .2) (length (a .given .now) - 0) (omega arith) _ _ _ (cp .ensures ∙ copied-fits (a .given .now) 0 _ (omega (arith, s .pre .1))) (u .ensures) (u .kept .1 .1 .1 .0) refl,
-      opened-size k (a .given .now) (s .pre .0) (s .pre .1) (s .pre .2) (length (a .given .now) - 0) (omega arith) _ _ _ (cp .ensures ∙ copied-fits (a .given .now) 0 _ (omega (arith, s .pre .1))) (u .ensures) (u .kept .1 .1 .1 .0) refl,
+    let k = oneWay (a .words .now) (a .rounds) in (
+      opened-by k (a .given .now) (s .pre .0) (s .pre .1) (s .pre .2) (length (a .given .now) - 0) (omega arith) _ _ _ (cp .ensures ∙ copied-fits (a .given .now) 0 _ (omega (arith, s .pre .1))) (u .ensures) (u .kept .1 .1 .0) refl,
+      opened-size k (a .given .now) (s .pre .0) (s .pre .1) (s .pre .2) (length (a .given .now) - 0) (omega arith) _ _ _ (cp .ensures ∙ copied-fits (a .given .now) 0 _ (omega (arith, s .pre .1))) (u .ensures) (u .kept .1 .1 .0) refl,
     )
 
 pub opened-spec : {M : Type 1} → statement M

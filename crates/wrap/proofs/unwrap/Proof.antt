@@ -23,15 +23,12 @@ returns c =
       unwrap-kept (j .result) (a .key .now) (a .«data» .now) (a .output .now) (c .match .keys2),
     )
 
-inverse-words-requires : tie.Need-inverse-words-requires
-inverse-words-requires c κs = search needs
-
-inverse-table-requires : tie.Need-inverse-table-requires
-inverse-table-requires c κs = search needs
+invert-requires : tie.Need-invert-requires
+invert-requires c κs = search needs
 
 unwrap-into-requires : tie.Need-unwrap-into-requires
 unwrap-into-requires c κs =
-    let e = c .before .before .before .before .before .before .before in
+    let e = c .before .before .before .before in
     let j = e .before .before in
     let w = j .before .before .before in
     let a = w .before .before .before .before .args in
@@ -43,15 +40,14 @@ same-length c = search needs
 returns-2 : tie.Need-returns-2
 returns-2 c =
     let i = c .before .before in
-    let t = i .before .before .before .before in
-    let v = t .before in
-    let e = v .before .before .before in
+    let v = i .before .before .before in
+    let e = v .before .before in
     let j = e .before .before in
     let w = j .before .before .before in
     let a = w .before .before .before .before .args in
     let b : Bytes (a .«data» .now) = λ k. omega (arith, w .before .before .shared-slice-known2 .given k) in (
-      unwrap-answered (a .key .now) _ (w .new .ensures) (a .«data» .now) (a .output .now) _ (j .judge-unwrap .ensures) (e .enum-told .given .1) _ _ (t .inverse-table .ensures) (v .inverse-words .ensures) b _ (i .unwrap-into .ensures .0),
-      unwrapped-by (a .key .now) _ (w .new .ensures) (a .«data» .now) (a .output .now) _ (j .judge-unwrap .ensures) (e .enum-told .given .1) _ _ (t .inverse-table .ensures) (v .inverse-words .ensures) b _ (i .unwrap-into .ensures .0) _ (i .unwrap-into .ensures .1),
+      unwrap-answered (a .key .now) _ (w .new .ensures) (a .«data» .now) (a .output .now) _ (j .judge-unwrap .ensures) (e .enum-told .given .1) _ (v .invert .ensures) b _ (i .unwrap-into .ensures .0),
+      unwrapped-by (a .key .now) _ (w .new .ensures) (a .«data» .now) (a .output .now) _ (j .judge-unwrap .ensures) (e .enum-told .given .1) _ (v .invert .ensures) b _ (i .unwrap-into .ensures .0) _ (i .unwrap-into .ensures .1),
     )
 
 pub unwrap-spec : {M : Type 1} → statement M
@@ -62,8 +58,7 @@ unwrap-spec =
     judge-unwrap-requires
     enum-told
     returns
-    inverse-words-requires
-    inverse-table-requires
+    invert-requires
     unwrap-into-requires
     same-length
     returns-2)

@@ -2,7 +2,7 @@ use Rattle.slices.proofs.Laws.{copied-fits}
 use native.Mathlib.Omega.{arith}
 use mathlib.Core.Path.{_∙_}
 use borrow.Author.Tests.{not-true, not-false}
-use Rattle.lookups.specs.Lookups.{oneTable}
+use Rattle.fips197.specs.Equivalent.{oneWay}
 use Rattle.wrap.proofs.Building.{opened-wrong, opened-right}
 use borrow.Author.Needs.{needs}
 use Rattle.wrap.proofs.unwrap_into.Statement.{statement}
@@ -22,7 +22,7 @@ returns c =
     let o = c .before .before .before .opened in
     let s = c .before .before .before .before .before .before in
     let a = s .args in
-    opened-wrong (oneTable (a .table .now) (a .words .now) (a .rounds)) (a .given .now) (a .output .now) (o .result) (omega (arith, s .pre .0)) (o .ensures .0) (o .ensures .1) _ (c .before .is-initial .ensures) (not-true _ (c .if1 .taken))
+    opened-wrong (oneWay (a .words .now) (a .rounds)) (a .given .now) (a .output .now) (o .result) (omega (arith, s .pre .0)) (o .ensures .0) (o .ensures .1) _ (c .before .is-initial .ensures) (not-true _ (c .if1 .taken))
 
 sub-copy : tie.Need-sub-copy
 sub-copy c = search needs
@@ -45,7 +45,7 @@ returns-2 c =
     let i = c .before .before .before .before .before .before in
     let s = c .before .before .before .before .before .before .before .before .before .before .before .before in
     let a = s .args in
-    opened-right (oneTable (a .table .now) (a .words .now) (a .rounds)) (a .given .now) (a .output .now) (o .result) (omega (arith, s .pre .0)) (o .ensures .0) (o .ensures .1) _ (i .before .is-initial .ensures) (not-false _ (i .if1 .left)) _ (c .before .before .copy .ensures ∙ copied-fits _ 0 (a .output .now) (omega (arith, s .pre)))
+    opened-right (oneWay (a .words .now) (a .rounds)) (a .given .now) (a .output .now) (o .result) (omega (arith, s .pre .0)) (o .ensures .0) (o .ensures .1) _ (i .before .is-initial .ensures) (not-false _ (i .if1 .left)) _ (c .before .before .copy .ensures ∙ copied-fits _ 0 (a .output .now) (omega (arith, s .pre)))
 
 pub unwrap-into-spec : {M : Type 1} → statement M
 unwrap-into-spec =

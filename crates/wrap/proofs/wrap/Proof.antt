@@ -1,6 +1,4 @@
-use Rattle.octets.specs.Octets.{Bytes}
 use Rattle.wrap.proofs.Calls.{wrap-answered, wrap-kept, wrap-fits, wrapped-by}
-use native.Mathlib.Omega.{arith}
 use borrow.Author.Needs.{needs}
 use Rattle.wrap.proofs.wrap.Statement.{statement}
 use Rattle.wrap.proofs.wrap.Tie as tie
@@ -23,12 +21,9 @@ returns c =
       wrap-kept (j .result) (a .key .now) (a .«data» .now) (a .output .now) (c .match .keys2),
     )
 
-forward-table-requires : tie.Need-forward-table-requires
-forward-table-requires c κs = search needs
-
 wrap-into-requires : tie.Need-wrap-into-requires
 wrap-into-requires c κs =
-    let e = c .before .before .before .before in
+    let e = c .before .before in
     let j = e .before .before in
     let w = j .before .before .before in
     let a = w .before .before .before .before .args in
@@ -40,14 +35,12 @@ same-length c = search needs
 returns-2 : tie.Need-returns-2
 returns-2 c =
     let i = c .before .before in
-    let t = i .before .before .before .before in
-    let e = t .before in
+    let e = i .before .before .before in
     let j = e .before .before in
     let w = j .before .before .before in
-    let a = w .before .before .before .before .args in
-    let b : Bytes (a .«data» .now) = λ k. omega (arith, w .before .before .shared-slice-known2 .given k) in (
+    let a = w .before .before .before .before .args in (
       wrap-answered (a .key .now) _ (w .new .ensures) (a .«data» .now) (a .output .now) _ (j .judge-wrap .ensures),
-      wrapped-by (a .key .now) _ (w .new .ensures) (a .«data» .now) (a .output .now) _ (j .judge-wrap .ensures) (e .enum-told .given .1) _ _ (t .forward-table .ensures) b (i .wrap-into .ensures),
+      wrapped-by (a .key .now) _ (w .new .ensures) (a .«data» .now) (a .output .now) _ (j .judge-wrap .ensures) (e .enum-told .given .1) _ (i .wrap-into .ensures),
     )
 
 pub wrap-spec : {M : Type 1} → statement M
@@ -58,7 +51,6 @@ wrap-spec =
     judge-wrap-requires
     enum-told
     returns
-    forward-table-requires
     wrap-into-requires
     same-length
     returns-2)

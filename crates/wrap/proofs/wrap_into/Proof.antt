@@ -2,7 +2,7 @@ use Rattle.slices.proofs.Laws.{copied-fits}
 use lib.ListN.{length}
 use Prim.Native.Nat.{_+_, _-_}
 use mathlib.Core.Path.{_∙_, refl}
-use Rattle.lookups.specs.Lookups.{oneTable}
+use Rattle.fips197.specs.Cipher.{standard}
 use Rattle.wrap.proofs.Building.{wrapped-over}
 use native.Mathlib.Omega.{arith}
 use borrow.Author.Needs.{needs}
@@ -43,7 +43,7 @@ returns c =
     let c1 = c .before .before .before .before .before .before .before .before .before .before .copy in
     let s = c .before .before .before .before .before .before .before .before .before .before .before .before .before .before .before in
     let a = s .args in
-    wrapped-over (oneTable (a .table .now) (a .words .now) (a .rounds)) (a .given .now) (a .output .now) (s .pre .0) (s .pre .1) (s .pre .2) (length (a .given .now) + 8 - 0) (omega arith) _ _ _ _ (c1 .ensures ∙ copied-fits _ 0 (a .output .now) (omega (arith, s .pre .3))) (c2 .ensures ∙ copied-fits (a .given .now) 8 _ (omega (arith, s .pre .3, c1 .kept .1 .0))) (ps .ensures) (ps .kept .1 .1 .1 .0) refl
+    wrapped-over (standard (a .words .now) (a .rounds)) (a .given .now) (a .output .now) (s .pre .0) (s .pre .1) (s .pre .2) (length (a .given .now) + 8 - 0) (omega arith) _ _ _ _ (c1 .ensures ∙ copied-fits _ 0 (a .output .now) (omega (arith, s .pre .3))) (c2 .ensures ∙ copied-fits (a .given .now) 8 _ (omega (arith, s .pre .3, c1 .kept .1 .0))) (ps .ensures) (ps .kept .1 .1 .0) refl
 
 pub wrap-into-spec : {M : Type 1} → statement M
 wrap-into-spec =

@@ -8,9 +8,6 @@ use borrow.Author.Needs.{needs}
 use Rattle.writer.proofs.seal_under.Statement.{statement}
 use Rattle.writer.proofs.seal_under.Tie as tie
 
-forward-table-requires : tie.Need-forward-table-requires
-forward-table-requires c κs = search needs
-
 key1-requires : tie.Need-key1-requires
 key1-requires c κs = search needs
 
@@ -18,7 +15,7 @@ key2-requires : tie.Need-key2-requires
 key2-requires c κs = search needs
 
 head-for-requires : tie.Need-head-for-requires
-head-for-requires c κs = c .before .before .before .before .before .before .pre
+head-for-requires c κs = c .before .before .before .before .pre
 
 last-for-requires : tie.Need-last-for-requires
 last-for-requires c κs = search needs
@@ -34,9 +31,9 @@ part-seal-start c = search needs
 
 part-seal-end : tie.Need-part-seal-end
 part-seal-end c =
-    let ts = c .before .before .before .before in
+    let ts = c .before .before .before in
     let l : length (ts .before .last-for .result) ≡ 16 = ts .before .last-for .ok .1 .0 .1 in
-    let n = ts .before .before .before .before .before .before .before .before .before .args .numbers in
+    let n = ts .before .before .before .before .before .before .before .args .numbers in
     omega (arith, ts .tail-size .ensures, tail-size-most (n .edition), l)
 
 seal-requires : tie.Need-seal-requires
@@ -49,21 +46,19 @@ returns : tie.Need-returns
 unfolding key2
 returns c =
     let sl = c .before .before in
-    let ts = sl .before .before .before .before .before .before .before in
+    let ts = sl .before .before .before .before .before .before in
     let lf = ts .before in
     let hd = lf .before in
     let k2 = hd .before in
-    let ft = k2 .before .before .before in
-    let n = ft .before .before .before .args .numbers in
+    let n = k2 .before .before .before .before .args .numbers in
     let l : length (lf .last-for .result) ≡ 16 = lf .last-for .ok .1 .0 .1 in
     let tail = tail-part (n .edition) (ts .tail-size .result) (lf .last-for .result) l (ts .tail-size .ensures) ∙ ap (tailOf (n .edition)) (lf .last-for .ensures) in
-    sl .seal .ensures ∙ rw (tail, hd .head-for .ensures, k2 .key2 .ensures, k2 .before .key1 .ensures, ft .forward-table .ensures)
+    sl .seal .ensures ∙ rw (tail, hd .head-for .ensures, k2 .key2 .ensures, k2 .before .key1 .ensures)
 
 pub seal-under-spec : {M : Type 1} → statement M
 seal-under-spec =
     tie.close
     (tie.spec
-    forward-table-requires
     key1-requires
     key2-requires
     head-for-requires

@@ -50,11 +50,9 @@ returns-2 c =
     let t = c .before .before .before .before .before .before .before .before in
     let j = t .before .before in
     let a = j .before .before .before .before .before .before .before .before .args in
-    let pa = j .judge-write .ensures ∙ ap (λ (x : Bool). writeRuled x (a .numbers) (length (a .payload .now)) (length (a .output .now))) (j .before .both-taken .ensures) in
-    let bv : Bytes (a .previous) = λ i. elem-fits w8 w8 (a .previous) _ i (j .before .before .before .before .before .before .before .before .good .1 .1 .1 .0 .1 .1) tt .fits in
-    let bp : Bytes (a .payload .now) = λ i. omega (arith, j .before .before .before .before .before .shared-slice-known3 .given i) in (
+    let pa = j .judge-write .ensures ∙ ap (λ (x : Bool). writeRuled x (a .numbers) (length (a .payload .now)) (length (a .output .now))) (j .before .both-taken .ensures) in (
       write-answered (a .ekey .now) (a .ckey .now) _ _ (j .before .before .before .new .ensures) (j .before .before .new2 .ensures) (a .numbers) (a .payload .now) (a .output .now) _ pa,
-      written-by (a .ekey .now) (a .ckey .now) _ _ (j .before .before .before .new .ensures) (j .before .before .new2 .ensures) (a .numbers) (a .payload .now) (a .output .now) _ pa (a .previous) _ bv bp (t .enum-told .given .1) (c .before .before .seal-under .ensures),
+      written-by (a .ekey .now) (a .ckey .now) _ _ (j .before .before .before .new .ensures) (j .before .before .new2 .ensures) (a .numbers) (a .payload .now) (a .output .now) _ pa (a .previous) _ (t .enum-told .given .1) (c .before .before .seal-under .ensures),
     )
 
 pub write-spec : {M : Type 1} → statement M

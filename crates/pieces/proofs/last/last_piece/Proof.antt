@@ -1,7 +1,7 @@
 use Prim.Native.Nat.{_≤_, _<_}
 use denote.Ref.{now}
 use lib.ListN.{length}
-use Rattle.lookups.specs.Lookups.{oneTable}
+use Rattle.fips197.specs.Equivalent.{oneWay}
 use Rattle.sp800_38a.specs.Modes.{machine}
 use Rattle.sp800_38a.specs.declared.Operation.the-variants.{Ofb}
 use Rattle.pieces.proofs.Runs.{rest-none, rest-one}
@@ -12,7 +12,7 @@ use Rattle.pieces.proofs.last.last_piece.Tie as tie
 returns : tie.Need-returns
 returns c =
     let a = c .before .before .before .args in
-    rest-none (machine (oneTable (now (a .table)) (now (a .words)) (a .rounds)) Ofb) (a .chain) (now (a .input)) (now (a .output)) (search needs)
+    rest-none (machine (oneWay (now (a .words)) (a .rounds)) Ofb) (a .chain) (now (a .input)) (now (a .output)) (search needs)
 
 encrypt-block-requires : tie.Need-encrypt-block-requires
 encrypt-block-requires c κs = search needs
@@ -31,7 +31,7 @@ returns-2 c =
     let some : 0 < length s = search needs in
     let h : length s ≤ 16 = search needs in
     rw (c .before .before .add .ensures, k .encrypt-block .ensures)
-    (rest-one (machine (oneTable (now (a .table)) (now (a .words)) (a .rounds)) Ofb) (a .chain) s (now (a .output)) some h (search needs))
+    (rest-one (machine (oneWay (now (a .words)) (a .rounds)) Ofb) (a .chain) s (now (a .output)) some h (search needs))
 
 pub last-piece-spec : {M : Type 1} → statement M
 last-piece-spec =

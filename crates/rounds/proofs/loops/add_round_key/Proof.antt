@@ -1,8 +1,8 @@
-use Prim.Native.Nat.{_*_}
 use mathlib.Core.Path.{_≡_}
+use Prim.Native.Nat.{_*_}
 use native.Mathlib.Omega.{arith}
-use Rattle.lookups.specs.Lookups.{addKeyWords}
 use Rattle.octets.specs.Octets.{xor}
+use Rattle.states.proofs.ByColumns.{add-law}
 use borrow.Author.Needs.{needs}
 use Rattle.rounds.proofs.loops.add_round_key.Statement.{statement}
 use Rattle.rounds.proofs.loops.add_round_key.Tie as tie
@@ -44,11 +44,11 @@ element-copy-out-t27 : tie.Need-element-copy-out-t27
 element-copy-out-t27 c = search needs
 
 returns : tie.Need-returns
-unfolding addKeyWords xor
+unfolding xor
 returns c =
-    let f = c .before .before .before .before .before .before .before .before .first-word in
-    let e : f .result .0 ≡ 4 * c .before .before .before .before .before .before .before .before .before .args .n .0 = omega (arith, f .ensures) in
-    rw e
+    let a = c .before .before .before .before .before .before .before .before .before .args in
+    let e : c .before .before .before .before .before .before .before .before .first-word .result .0 ≡ 4 * a .n .0 = omega arith in
+    rw e (add-law (a .words .now) (a .n .0) (a .s .0) (a .s .1) (a .s .2) (a .s .3))
 
 pub add-round-key-spec : {M : Type 1} → statement M
 add-round-key-spec =

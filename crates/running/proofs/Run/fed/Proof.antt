@@ -2,7 +2,7 @@ use mathlib.Core.Path.{_≡_, _∙_}
 use Prim.Native.Nat.{_-_}
 use denote.Ref.{now}
 use lib.ListN.{length}
-use Rattle.lookups.specs.Lookups.{oneTable}
+use Rattle.fips197.specs.Cipher.{standard}
 use Rattle.sp800_38b.proofs.Filling.{to-end}
 use Rattle.running.proofs.Laws.{fed-room, fed-over}
 use borrow.Author.Needs.{needs}
@@ -15,11 +15,11 @@ room-after-requires c κs = search needs
 filled-requires : tie.Need-filled-requires
 filled-requires c κs = search needs
 
-sub-t13 : tie.Need-sub-t13
-sub-t13 c = search needs
+sub-t12 : tie.Need-sub-t12
+sub-t12 c = search needs
 
-add-t15 : tie.Need-add-t15
-add-t15 c = search needs
+add-t14 : tie.Need-add-t14
+add-t14 c = search needs
 
 returns : tie.Need-returns
 returns c =
@@ -27,7 +27,7 @@ returns c =
     let x = s .args .self in
     let size : length (x .held) ≡ 16 = search needs in
     rw (c .before .filled .ensures, c .before .before .room-after .ensures)
-    (fed-room (x .held) size (oneTable (now (s .args .table)) (now (s .args .words)) (s .args .rounds)) (x .chain) (x .count) (now (s .args .part)) (search needs))
+    (fed-room (x .held) size (standard (now (s .args .words)) (s .args .rounds)) (x .chain) (x .count) (now (s .args .part)) (search needs))
 
 xor-requires : tie.Need-xor-requires
 xor-requires c κs = search needs
@@ -53,7 +53,7 @@ returns-2 c =
     let x = s .args .self in
     let size : length (x .held) ≡ 16 = search needs in
     c .run-from .ensures ∙ rw (c .before .before .encrypt-block .ensures, c .before .before .before .xor .ensures, c .before .before .before .before .before .filled .ensures, c .before .before .before .before .before .before .room-after .ensures, to-end (now (s .args .part)) (16 - x .count))
-    (fed-over (x .held) size (oneTable (now (s .args .table)) (now (s .args .words)) (s .args .rounds)) (x .chain) (x .count) (now (s .args .part)) (search needs))
+    (fed-over (x .held) size (standard (now (s .args .words)) (s .args .rounds)) (x .chain) (x .count) (now (s .args .part)) (search needs))
 
 pub fed-spec : {M : Type 1} → statement M
 fed-spec =
@@ -61,8 +61,8 @@ fed-spec =
     (tie.spec
     room-after-requires
     filled-requires
-    sub-t13
-    add-t15
+    sub-t12
+    add-t14
     returns
     xor-requires
     encrypt-block-requires

@@ -1,25 +1,23 @@
 use mathlib.Core.Path.{ap, _∙_}
-use mathlib.Core.List.{List}
-use Prim.Native.Nat.{ℕ}
 use denote.Ref.{now}
 use Rattle.sbox.specs.Sbox.{sBox}
-use Rattle.octets.specs.Octets.{entry}
-use Rattle.schedule.specs.Schedule.{scheduleOf}
-use Rattle.schedule.proofs.Laws.{schedule-table}
+use Rattle.schedule.specs.Schedule.{answerOf}
+use Rattle.schedule.proofs.Laws.{put-schedule}
 use borrow.Author.Needs.{needs}
 use Rattle.schedule.proofs.KeySchedule.new.Statement.{statement}
 use Rattle.schedule.proofs.KeySchedule.new.Tie as tie
 
-table-requires : tie.Need-table-requires
-table-requires c κs = search needs
+schedule-into-requires : tie.Need-schedule-into-requires
+schedule-into-requires c κs = search needs
 
-scheduled-requires : tie.Need-scheduled-requires
-scheduled-requires c κs = search needs
+answer-of-requires : tie.Need-answer-of-requires
+answer-of-requires c κs = search needs
 
 returns : tie.Need-returns
 returns c =
-    let key = now (c .before .before .before .before .args .key) in
-    c .scheduled .ensures ∙ ap (λ (t : List ℕ). scheduleOf (entry t) key) (c .before .before .table .ensures) ∙ schedule-table sBox key
+    let e = c .before .schedule-into .ensures in
+    let k = put-schedule sBox (now (c .before .before .before .before .args .key)) in
+    rw (c .answer-of .ensures ∙ ap answerOf (e .0) ∙ k .same-answer, e .0, e .1)
 
 pub new-spec : {M : Type 1} → statement M
-new-spec = tie.close (tie.spec table-requires scheduled-requires returns)
+new-spec = tie.close (tie.spec schedule-into-requires answer-of-requires returns)

@@ -1,0 +1,4 @@
+pub mod Forward
+pub mod Back
+pub mod Row
+pub mod Rows

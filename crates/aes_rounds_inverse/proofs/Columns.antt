@@ -1,0 +1,15 @@
+-- What a column by its rows is. Assumes nothing.
+use mathlib.Core.Path.{_≡_, refl, _∙_}
+use mathlib.Core.List.{List}
+use Prim.Native.Nat.{ℕ}
+use Rattle.sbox.specs.Sbox.{invSBox}
+use Rattle.sbox.proofs.Laws.{invSBox-lt}
+use Rattle.mixing.specs.Mixing.{invMixColumn, invMixedEntry}
+use Rattle.mixing.proofs.Spin.{sub-mix-column-mixes-back}
+use Rattle.aes_lookup_rule.proofs.Rows.{rowsOf, rows-all}
+use Rattle.aes_rounds_inverse.specs.Diagonals.{backFrom, invSubShifted}
+
+pub column-law : (t : List ℕ) (j : ℕ) → rowsOf (invMixedEntry invSBox) (backFrom t j) 4 ≡ invMixColumn (invSubShifted t j)
+column-law t j =
+    rows-all (invMixedEntry invSBox) (backFrom t j)
+    ∙ sub-mix-column-mixes-back invSBox invSBox-lt (invMixedEntry invSBox) (backFrom t j 0) (backFrom t j 1) (backFrom t j 2) (backFrom t j 3) (λ k h. refl)

@@ -1,0 +1,52 @@
+use lib.ListN.{getD}
+use mir.Syntax.{w8}
+use mir.Val.{Fits}
+use denote.Ref.{now}
+use mathlib.Core.Path.{sym, ap, _∙_}
+use Rattle.octets.specs.Octets.{Octets}
+use Rattle.fips197.specs.State.{aes}
+use Rattle.fips197.proofs.Rounds.{round-count}
+use Rattle.states.specs.Columns.{blockOf}
+use Rattle.states.proofs.Loaded.{loaded}
+use Rattle.sbox.specs.Sbox.{invSBox}
+use Rattle.fips197.specs.Equivalent.{eqInvCipher}
+use Rattle.fips197.specs.Equivalent.{eqDecryptBlock}
+use borrow.Author.Needs.{needs}
+use Rattle.aes_rounds_inverse.proofs.decrypt_block.Statement.{statement}
+use Rattle.aes_rounds_inverse.proofs.decrypt_block.Tie as tie
+
+is-round-count-requires : tie.Need-is-round-count-requires
+is-round-count-requires c κs = search needs
+
+load-requires : tie.Need-load-requires
+load-requires c κs = search needs
+
+eq-inv-cipher-requires : tie.Need-eq-inv-cipher-requires
+eq-inv-cipher-requires c κs = round-count (c .before .before .before .args .rounds) (sym (c .before .before .is-round-count .ensures) ∙ c .before .if1 .taken)
+
+store-requires : tie.Need-store-requires
+store-requires c κs = search needs
+
+returns : tie.Need-returns
+unfolding eqDecryptBlock
+returns c =
+    let a = c .before .before .before .before .before .args in
+    let o : Octets 16 (a .block) = record { size = search needs; bytes = λ k. (let h : Fits w8 (getD (a .block) k 0) = search needs in h .fits) } in
+    simp (sym (c .before .before .before .before .is-round-count .ensures) ∙ c .before .before .before .if1 .taken)
+    (c .store .ensures ∙ c .before .eq-inv-cipher .ensures
+    ∙ ap (eqInvCipher aes invSBox (now (a .words)) (a .rounds)) (ap blockOf (c .before .before .load .ensures) ∙ loaded (a .block) o))
+
+returns-2 : tie.Need-returns-2
+unfolding eqDecryptBlock
+returns-2 c = simp (sym (c .before .is-round-count .ensures) ∙ c .if1 .left)
+
+pub decrypt-block-spec : {M : Type 1} → statement M
+decrypt-block-spec =
+    tie.close
+    (tie.spec
+    is-round-count-requires
+    load-requires
+    eq-inv-cipher-requires
+    store-requires
+    returns
+    returns-2)

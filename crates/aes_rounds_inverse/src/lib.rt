@@ -1,0 +1,20 @@
+// One block decrypted, under a schedule for the way back.
+mod loops;
+
+use crate::loops::eq_inv_cipher;
+use schedule::is_round_count;
+use states::load;
+use states::store;
+ghost use mathlib.Core.Path.{_≡_};
+ghost use Rattle.sbox.specs.Sbox.{invSBox};
+ghost use Rattle.fips197.specs.Equivalent.{eqDecryptBlock};
+
+// The schedule is one that aes_schedule_inverse has made; zeros where no key gives so many rounds.
+pub fn decrypt_block(words: &[u32; 60], rounds: usize, block: [u8; 16]) -> [u8; 16]
+    ensures { λ r. ⌜ r ≡ eqDecryptBlock invSBox (now (words .entry)) rounds block ⌝ }
+{
+    if is_round_count(rounds) {
+        return store(eq_inv_cipher(words, rounds, load(block)));
+    }
+    [0u8; 16]
+}

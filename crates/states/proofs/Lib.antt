@@ -1,0 +1,3 @@
+pub mod ByColumns
+pub mod Loaded
+pub mod Keyed
