@@ -423,7 +423,7 @@ module _ (κs : _) (a : _) (r : _) (s : _) (p : write.Post κs a r s)
   abbrev written : List ℕ
   written = take 512 (now (s .1 .1 .1 .1 .1 .0))
 
-  wrote : Wrote (now (a .0)) (now (a .1 .0)) (a .1 .1 .0) (a .1 .1 .1 .0) (now (a .1 .1 .1 .1 .0)) (take 512 (now (s .1 .1 .1 .1 .1 .0)))
+  pub wrote : Wrote (now (a .0)) (now (a .1 .0)) (a .1 .1 .0) (a .1 .1 .1 .0) (now (a .1 .1 .1 .1 .0)) (take 512 (now (s .1 .1 .1 .1 .1 .0)))
   wrote = record {
     out = now (a .1 .1 .1 .1 .1 .0);
     answer = fit-is-written (now (a .0)) (now (a .1 .0)) (a .1 .1 .0) (now (a .1 .1 .1 .1 .0)) (now (a .1 .1 .1 .1 .1 .0)) fit;

@@ -64,16 +64,28 @@ pub record Met (k : Keys) (ed : Edition) (s : Progress) (b : List ℕ) : Type 0 
   pub head-right : Right (ed .mark) s (headOf b)
   pub fill-zero : fillZero (k .enc) b ≡ true
 
+-- the table's row for a reason that a header alone gives, where an edition's mark is asked for
+abbrev pub HeadRow : (mark : ℕ) → Progress → Head → Reason → Type 0
+HeadRow mark s h (Count v) = (v ≡ h .count) × (0 < v → v ≤ 65535 → ⊥)
+HeadRow mark s h (Number v) = (v ≡ h .number) × (v ≡ s .next → ⊥)
+HeadRow mark s h (OtherCount v) = (v ≡ h .count) × (0 < s .next) × (v ≡ s .count → ⊥)
+HeadRow mark s h (OtherRelease v) = (v ≡ h .release) × (0 < s .next) × (v ≡ s .release → ⊥)
+HeadRow mark s h (Length v) = (v ≡ h .len) × (lengthFits (h .number) (h .count) v ≡ false)
+HeadRow mark s h (Reserved v) = (v ≡ h .reserved) × (v ≡ mark → ⊥)
+HeadRow mark s h AfterLast = ⊥
+HeadRow mark s h CheckWrong = ⊥
+HeadRow mark s h FillNotZero = ⊥
+
 -- the table's row for a reason: when it is given, and that the value held is the one found
 abbrev pub Row : Keys → Edition → Progress → List ℕ → Reason → Type 0
 Row k ed s b AfterLast = (0 < s .next) × (s .count ≤ s .next)
 Row k ed s b CheckWrong = (k .usable && checks (k .mac) (ed .tail (s .last)) b) ≡ false
-Row k ed s b (Count v) = (v ≡ headOf b .count) × (0 < v → v ≤ 65535 → ⊥)
-Row k ed s b (Number v) = (v ≡ headOf b .number) × (v ≡ s .next → ⊥)
-Row k ed s b (OtherCount v) = (v ≡ headOf b .count) × (0 < s .next) × (v ≡ s .count → ⊥)
-Row k ed s b (OtherRelease v) = (v ≡ headOf b .release) × (0 < s .next) × (v ≡ s .release → ⊥)
-Row k ed s b (Length v) = (v ≡ headOf b .len) × (lengthFits (headOf b .number) (headOf b .count) v ≡ false)
-Row k ed s b (Reserved v) = (v ≡ headOf b .reserved) × (v ≡ ed .mark → ⊥)
+Row k ed s b (Count v) = HeadRow (ed .mark) s (headOf b) (Count v)
+Row k ed s b (Number v) = HeadRow (ed .mark) s (headOf b) (Number v)
+Row k ed s b (OtherCount v) = HeadRow (ed .mark) s (headOf b) (OtherCount v)
+Row k ed s b (OtherRelease v) = HeadRow (ed .mark) s (headOf b) (OtherRelease v)
+Row k ed s b (Length v) = HeadRow (ed .mark) s (headOf b) (Length v)
+Row k ed s b (Reserved v) = HeadRow (ed .mark) s (headOf b) (Reserved v)
 Row k ed s b FillNotZero = fillZero (k .enc) b ≡ false
 
 -- the order in which the rows are asked: 16, 14, 7, 8, 9, 10, 12, 13, 15
@@ -92,6 +104,11 @@ rank FillNotZero = 8
 abbrev pub Says : Keys → Edition → Progress → List ℕ → Verdict → Type 0
 Says k ed s b Accepted = Met k ed s b
 Says k ed s b (Refused r) = Row k ed s b r × ((q : Reason) → rank q < rank r → Row k ed s b q → ⊥)
+
+-- the same of a header alone
+abbrev pub HeadSays : (mark : ℕ) → Progress → Head → Verdict → Type 0
+HeadSays mark s h Accepted = (q : Reason) → HeadRow mark s h q → ⊥
+HeadSays mark s h (Refused r) = HeadRow mark s h r × ((q : Reason) → rank q < rank r → HeadRow mark s h q → ⊥)
 
 -- refused by 16 where no block may follow, else by 14
 abbrev pub unchecked : Progress → Verdict

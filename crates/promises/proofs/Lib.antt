@@ -13,8 +13,11 @@ pub mod ImageTerms
 pub mod Image
 pub mod OneImage
 pub mod ImageDemands
+pub mod Damage
 pub mod OldRules
 pub mod WrapTerms
 pub mod Wrap
 pub mod WrapDemands
+pub mod Told
 pub mod Exports
+pub mod Pins

@@ -1,6 +1,7 @@
 -- Demands 1, 2 and 3 for the modes. Assumes nothing.
 use mathlib.Core.Path.{_≡_, refl, sym, ap, ap₂, subst, _∙_}
 use mathlib.Core.Bool.{Bool, true, false, true≢false}
+use mathlib.Core.Logic.{_⊎_, ⊎-elim}
 use mathlib.Core.List.{List, _++_}
 use Prim.Native.Nat.{ℕ, _+_, _*_, _/_, _%_, _≤_, _<_, min}
 use native.Mathlib.Nat.{zero-lt-suc}
@@ -28,6 +29,7 @@ use Rattle.sp800_38a.proofs.Undo.{ChainOf, moded-undone}
 use Rattle.sp800_38a.proofs.Sixteen.{by-sixteen, pieces-16, length-16, undone-16, handed-16, chain-block}
 use Rattle.sp800_38a.proofs.Equations.{equation, handed-on}
 use Rattle.sp800_38a.proofs.HandedOn as cuts
+use Rattle.sp800_38a.proofs.Pins.{all-but-ecb-chain, ecb-chains-nothing}
 use Rattle.pieces.specs.Runs.{reach, runOver}
 use Rattle.pieces.proofs.Agree.{iv-is-chain, through-forward, through-backward, through-mode}
 use Rattle.mode_answers.specs.Answers.{modeNumber, leftOver, judged}
@@ -37,6 +39,7 @@ use Rattle.mode_answers.proofs.Answers.{left-none, none-left}
 use Rattle.modes.specs.Calls.{modeAnswer, modeOutput, modeNext}
 use Rattle.modes.specs.declared.Applied.{Applied}
 use Rattle.modes.proofs.Calls.{kept, zeros}
+use Rattle.modes.proofs.Pins.{hands-on}
 use Rattle.promises.proofs.Keys.{KeyTaken}
 use Rattle.mode_answers.proofs.judge.Reads as judge-mode
 use Rattle.mode_answers.proofs.any_length.Reads as any-length
@@ -51,6 +54,10 @@ use Rattle.pieces.proofs.run.Reads as run
 -- the lengths of input that an operation takes: OFB any, the others those of whole pieces
 abbrev pub Takes : Operation → ℕ → Type 0
 Takes o n = Unless (anyLength o) (n % 16 ≡ 0)
+
+-- neither of ECB's two operations: CBC, CFB or OFB, each of which hands on a chaining value
+abbrev pub NotEcb : Operation → Type 0
+NotEcb o = (o ≡ EcbEncrypt → ⊥) × (o ≡ EcbDecrypt → ⊥)
 
 -- what a call asks, in the order of the table: 1, 2, 3, 4 come where one of these fails
 pub record Fit (o : Operation) (key iv inp out : List ℕ) : Type 0 where
@@ -143,21 +150,30 @@ run-refused-keeps κs a r s p e = ap (λ (x : List ℕ × List ℕ). x .1) p ∙
 
 -- ---- each answer says what the table says, in its order; and where nothing is refused the call is done
 
-tell : (o : Operation) (key iv inp out : List ℕ) → Says o key iv inp out (modeAnswer o key iv inp out)
-unfolding modeAnswer judged
-tell o key iv inp out =
-    each (eqb (keyNumber (scheduleOf sBox key .answer)) 0) (eqb (length iv) (ivLength 16 o)) (eqb (leftOver o (length inp)) 0) (ltb (length out) (length inp)) refl refl refl refl
+-- the judge's order, of the key's number and the lengths
+pub judged-says : (key : ℕ) (o : Operation) (iv inp out : ℕ) (P : ModeAnswer → Type 0)
+    → ((key ≡ 0 → ⊥) → P BadKey) → (key ≡ 0 → (iv ≡ ivLength 16 o → ⊥) → P BadIv) → (key ≡ 0 → iv ≡ ivLength 16 o → (Takes o inp → ⊥) → P NotPieces)
+    → (key ≡ 0 → iv ≡ ivLength 16 o → Takes o inp → out < inp → P OutputShort) → (key ≡ 0 → iv ≡ ivLength 16 o → Takes o inp → inp ≤ out → P Done)
+    → P (judged key (ivLength 16 o) iv (leftOver o inp) inp out)
+unfolding judged
+judged-says key o iv inp out P k i t l d = each (eqb key 0) (eqb iv (ivLength 16 o)) (eqb (leftOver o inp) 0) (ltb out inp) refl refl refl refl
   where
-    taken : leftOver o (length inp) ≡ 0 → Takes o (length inp)
-    taken e = left-none o (length inp) e
+    took : eqb (leftOver o inp) 0 ≡ true → Takes o inp
+    took e = left-none o inp (eqb-true _ _ e)
 
-    each : (p q u v : Bool) → eqb (keyNumber (scheduleOf sBox key .answer)) 0 ≡ p → eqb (length iv) (ivLength 16 o) ≡ q → eqb (leftOver o (length inp)) 0 ≡ u → ltb (length out) (length inp) ≡ v
-        → Says o key iv inp out (choose p (choose q (choose u (choose v OutputShort Done) NotPieces) BadIv) BadKey)
-    each true true true true ep eq eu ev = (eqb-true _ _ ep, eqb-true _ _ eq, taken (eqb-true _ _ eu), ltb-true _ _ ev)
-    each true true true false ep eq eu ev = record { key-taken = eqb-true _ _ ep; iv-right = eqb-true _ _ eq; pieces = taken (eqb-true _ _ eu); room = ltb-false _ _ ev }
-    each true true false v ep eq eu ev = (eqb-true _ _ ep, eqb-true _ _ eq, λ t. eqb-false _ _ eu (none-left o (length inp) t))
-    each true false u v ep eq eu ev = (eqb-true _ _ ep, eqb-false _ _ eq)
-    each false q u v ep eq eu ev = eqb-false _ _ ep
+    each : (p q u v : Bool) → eqb key 0 ≡ p → eqb iv (ivLength 16 o) ≡ q → eqb (leftOver o inp) 0 ≡ u → ltb out inp ≡ v
+        → P (choose p (choose q (choose u (choose v OutputShort Done) NotPieces) BadIv) BadKey)
+    each true true true true ep eq eu ev = l (eqb-true _ _ ep) (eqb-true _ _ eq) (took eu) (ltb-true _ _ ev)
+    each true true true false ep eq eu ev = d (eqb-true _ _ ep) (eqb-true _ _ eq) (took eu) (ltb-false _ _ ev)
+    each true true false v ep eq eu ev = t (eqb-true _ _ ep) (eqb-true _ _ eq) (λ x. eqb-false _ _ eu (none-left o inp x))
+    each true false u v ep eq eu ev = i (eqb-true _ _ ep) (eqb-false _ _ eq)
+    each false q u v ep eq eu ev = k (eqb-false _ _ ep)
+
+tell : (o : Operation) (key iv inp out : List ℕ) → Says o key iv inp out (modeAnswer o key iv inp out)
+unfolding modeAnswer
+tell o key iv inp out =
+    judged-says (keyNumber (scheduleOf sBox key .answer)) o (length iv) (length inp) (length out) (Says o key iv inp out)
+    (λ k. k) (λ k i. (k, i)) (λ k i t. (k, i, t)) (λ k i t l. (k, i, t, l)) (λ k i t l. record { key-taken = k; iv-right = i; pieces = t; room = l })
 
 -- an answer that a call which fits gives
 fit-done : (o : Operation) (key iv inp out : List ℕ) → Fit o key iv inp out → (r : ModeAnswer) → Says o key iv inp out r → r ≡ Done
@@ -181,9 +197,9 @@ pub apply-done : (κs : _) (a : _) (r : _) (s : _) → apply.Post κs a r s
     → Fit (a .0) (now (a .1 .0)) (now (a .1 .1 .0)) (now (a .1 .1 .1 .0)) (now (a .1 .1 .1 .1 .0)) → modeNumber (r .answer) ≡ 0
 apply-done κs a r s p f = ap modeNumber (fit-done _ _ _ _ _ f (r .answer) (apply-as-told κs a r s p))
 
--- 3 comes from ECB, CBC and CFB alone
-pub not-pieces-not-ofb : (κs : _) (a : _) (r : _) (s : _) → apply.Post κs a r s → modeNumber (r .answer) ≡ 3 → anyLength (a .0) ≡ false
-not-pieces-not-ofb κs a r s p e = whole-asked (a .0) (told (r .answer) e (apply-as-told κs a r s p))
+-- 3 never comes from OFB
+pub not-pieces-not-ofb : (κs : _) (a : _) (r : _) (s : _) → apply.Post κs a r s → modeNumber (r .answer) ≡ 3 → a .0 ≡ Ofb → ⊥
+not-pieces-not-ofb κs a r s p e ofb = told (r .answer) e (apply-as-told κs a r s p) (rw ofb tt)
   where
     told : (r : ModeAnswer) → modeNumber r ≡ 3 → Says (a .0) (now (a .1 .0)) (now (a .1 .1 .0)) (now (a .1 .1 .1 .0)) (now (a .1 .1 .1 .1 .0)) r
         → Takes (a .0) (length (now (a .1 .1 .1 .0))) → ⊥
@@ -192,13 +208,6 @@ not-pieces-not-ofb κs a r s p e = whole-asked (a .0) (told (r .answer) e (apply
     told BadIv e t = absurd (omega arith)
     told NotPieces e t = t .2
     told OutputShort e t = absurd (omega arith)
-
-    whole-asked : (o : Operation) → (Takes o (length (now (a .1 .1 .1 .0))) → ⊥) → anyLength o ≡ false
-    whole-asked o h = by (anyLength o) refl h
-      where
-        by : (k : Bool) → anyLength o ≡ k → (Unless k (length (now (a .1 .1 .1 .0)) % 16 ≡ 0) → ⊥) → k ≡ false
-        by true e h = absurd (h tt)
-        by false e h = refl
 
 -- ---- what a call that fits wrote
 
@@ -218,8 +227,8 @@ module _ (o : Operation) (key iv inp out : List ℕ) (bi : Bytes iv) (bs : Bytes
   wrote : (r : ModeAnswer) → Says o key iv inp out r → modeOutput r o key iv inp out ≡ over (moded 16 (aesOf key) o iv inp) out
   wrote r t = rw (fit-done o key iv inp out f r t)
 
-  hands : chains o ≡ true → (r : ModeAnswer) → Says o key iv inp out r → modeNext r o key iv inp ≡ handedOn 16 (aesOf key) o iv inp
-  hands k r t = rw (fit-done o key iv inp out f r t, k)
+  hands : NotEcb o → (r : ModeAnswer) → Says o key iv inp out r → modeNext r o key iv inp ≡ handedOn 16 (aesOf key) o iv inp
+  hands k r t = rw (fit-done o key iv inp out f r t) (hands-on o (k .0) (k .1) key iv inp)
 
   rest-kept : (x : List ℕ) → x ≡ over (moded 16 (aesOf key) o iv inp) out → (drop (length inp) x ≡ drop (length inp) out) × (length x ≡ length out)
   rest-kept x e =
@@ -356,7 +365,7 @@ ofb-twice-returns-the-input κs a r s p κs′ a′ r′ s′ q eo eo′ key iv 
 -- what a call that fits made, and what it handed on; ECB has nothing to hand on
 pub apply-gives : (κs : _) (a : _) (r : _) (s : _) → apply.Post κs a r s
     → Fit (a .0) (now (a .1 .0)) (now (a .1 .1 .0)) (now (a .1 .1 .1 .0)) (now (a .1 .1 .1 .1 .0))
-    → Bytes (now (a .1 .1 .0)) → Bytes (now (a .1 .1 .1 .0)) → chains (a .0) ≡ true
+    → Bytes (now (a .1 .1 .0)) → Bytes (now (a .1 .1 .1 .0)) → NotEcb (a .0)
     → (take (length (now (a .1 .1 .1 .0))) (now (s .1 .1 .1 .1 .0)) ≡ moded 16 (aesOf (now (a .1 .0))) (a .0) (now (a .1 .1 .0)) (now (a .1 .1 .1 .0)))
     × (r .next ≡ handedOn 16 (aesOf (now (a .1 .0))) (a .0) (now (a .1 .1 .0)) (now (a .1 .1 .1 .0)))
 apply-gives κs a r s p f bi bs k =
@@ -374,7 +383,7 @@ apply-gives κs a r s p f bi bs k =
 -- it is the last block of the ciphertext, in OFB the last output block, all 16 bytes, and the IV where the input is empty
 pub apply-hands-on : (κs : _) (a : _) (r : _) (s : _) → apply.Post κs a r s
     → Fit (a .0) (now (a .1 .0)) (now (a .1 .1 .0)) (now (a .1 .1 .1 .0)) (now (a .1 .1 .1 .1 .0))
-    → Bytes (now (a .1 .1 .0)) → Bytes (now (a .1 .1 .1 .0)) → chains (a .0) ≡ true
+    → Bytes (now (a .1 .1 .0)) → Bytes (now (a .1 .1 .1 .0)) → NotEcb (a .0)
     → Handed 16 (aesOf (now (a .1 .0))) (a .0) (now (a .1 .1 .0)) (now (a .1 .1 .1 .0)) (take (length (now (a .1 .1 .1 .0))) (now (s .1 .1 .1 .1 .0))) (r .next)
 apply-hands-on κs a r s p f bi bs k =
     let o = a .0 in
@@ -394,8 +403,10 @@ no-chain BadIv o key iv inp e = refl
 no-chain NotPieces o key iv inp e = refl
 no-chain OutputShort o key iv inp e = refl
 
-pub ecb-hands-on-zeros : (κs : _) (a : _) (r : _) (s : _) → apply.Post κs a r s → chains (a .0) ≡ false → r .next ≡ replicate 16 0
-ecb-hands-on-zeros κs a r s p e = apply-next κs a r s p ∙ no-chain (r .answer) (a .0) (now (a .1 .0)) (now (a .1 .1 .0)) (now (a .1 .1 .1 .0)) e
+pub ecb-hands-on-zeros : (κs : _) (a : _) (r : _) (s : _) → apply.Post κs a r s → (a .0 ≡ EcbEncrypt) ⊎ (a .0 ≡ EcbDecrypt) → r .next ≡ replicate 16 0
+ecb-hands-on-zeros κs a r s p e =
+    apply-next κs a r s p
+    ∙ no-chain (r .answer) (a .0) (now (a .1 .0)) (now (a .1 .1 .0)) (now (a .1 .1 .1 .0)) (⊎-elim (λ z. ap chains z ∙ ecb-chains-nothing .0) (λ z. ap chains z ∙ ecb-chains-nothing .1) e)
 
 -- for the definitions, over every block cipher of any width: two inputs joined, of which the first is n whole pieces, are the first and
 -- then, with the value handed on, the second; and so is the value at the end
@@ -432,7 +443,7 @@ chained-iv Ofb e = refl
 -- one that fits over both joined; the third wrote what the first two wrote, and handed on what the second did
 pub two-calls-are-one : (κs : _) (a : _) (r : _) (s : _) → apply.Post κs a r s → (κs′ : _) (a′ : _) (r′ : _) (s′ : _) → apply.Post κs′ a′ r′ s′
     → (κs″ : _) (a″ : _) (r″ : _) (s″ : _) → apply.Post κs″ a″ r″ s″
-    → Fit (a″ .0) (now (a″ .1 .0)) (now (a″ .1 .1 .0)) (now (a″ .1 .1 .1 .0)) (now (a″ .1 .1 .1 .1 .0)) → chains (a″ .0) ≡ true
+    → Fit (a″ .0) (now (a″ .1 .0)) (now (a″ .1 .1 .0)) (now (a″ .1 .1 .1 .0)) (now (a″ .1 .1 .1 .1 .0)) → NotEcb (a″ .0)
     → a .0 ≡ a″ .0 → now (a .1 .0) ≡ now (a″ .1 .0) → now (a .1 .1 .0) ≡ now (a″ .1 .1 .0)
     → a′ .0 ≡ a″ .0 → now (a′ .1 .0) ≡ now (a″ .1 .0) → now (a′ .1 .1 .0) ≡ r .next
     → now (a″ .1 .1 .1 .0) ≡ now (a .1 .1 .1 .0) ++ now (a′ .1 .1 .1 .0) → length (now (a .1 .1 .1 .0)) % 16 ≡ 0
@@ -448,6 +459,7 @@ two-calls-are-one κs a r s p κs′ a′ r′ s′ p′ κs″ a″ r″ s″ p
     let x = now (a .1 .1 .1 .0) in
     let y = now (a′ .1 .1 .1 .0) in
     let c = aesOf key in
+    let chain = all-but-ecb-chain o (k .0) (k .1) in
     let f1 : Fit (a .0) (now (a .1 .0)) (now (a .1 .1 .0)) x (now (a .1 .1 .1 .1 .0)) =
     rw (eo, ek, ei) (record { key-taken = f .key-taken; iv-right = f .iv-right; pieces = whole-taken (anyLength o) (length x) whole; room = room }) in
     let g1 = apply-gives κs a r s p f1 (rw ei bi) ba (rw eo k) in
@@ -455,12 +467,12 @@ two-calls-are-one κs a r s p κs′ a′ r′ s′ p′ κs″ a″ r″ s″ p
     let n1 : r .next ≡ handedOn 16 c o iv x = g1 .1 ∙ rw (eo, ek, ei) in
     let st : Octets 16 (r .next) =
     rw n1
-    (chain-block o (handedOn 16 c o iv x) k
+    (chain-block o (handedOn 16 c o iv x) chain
     (handed-16 c (key-lawful key (f .key-taken)) o iv x (iv-is-chain o iv (f .iv-right) bi) ba (whole-taken (anyLength o) (length x) whole))) in
     let all : Takes o (length x + length y) = subst (λ (i : ℕ). Takes o i) (ap length es ∙ length-append x y) (f .pieces) in
     let f2 : Fit (a′ .0) (now (a′ .1 .0)) (now (a′ .1 .1 .0)) y (now (a′ .1 .1 .1 .1 .0)) =
     rw (eo′, ek′, ei′)
-    (record { key-taken = f .key-taken; iv-right = st .size ∙ sym (chained-iv o k); pieces = rest-taken (anyLength o) (length x) (length y) whole all; room = room′ }) in
+    (record { key-taken = f .key-taken; iv-right = st .size ∙ sym (chained-iv o chain); pieces = rest-taken (anyLength o) (length x) (length y) whole all; room = room′ }) in
     let g2 = apply-gives κs′ a′ r′ s′ p′ f2 (rw ei′ (st .bytes)) bb (rw eo′ k) in
     let w2 : take (length y) (now (s′ .1 .1 .1 .1 .0)) ≡ moded 16 c o (r .next) y = g2 .0 ∙ rw (eo′, ek′, ei′) in
     let n2 : r′ .next ≡ handedOn 16 c o (r .next) y = g2 .1 ∙ rw (eo′, ek′, ei′) in

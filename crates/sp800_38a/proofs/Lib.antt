@@ -5,3 +5,4 @@ pub mod Undo
 pub mod Sixteen
 pub mod Same
 pub mod Equations
+pub mod Pins

@@ -1,3 +1,4 @@
 pub mod Agree
 pub mod Calls
 pub mod Blockwise
+pub mod Pins

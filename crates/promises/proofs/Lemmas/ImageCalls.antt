@@ -1,6 +1,6 @@
 -- The writer's and the reader's calls by what they rest on: keys that were taken, blocks that were sealed, runs over lent blocks. Assumes nothing.
 use mathlib.Core.Path.{_≡_, refl, sym, ap, ap₂, subst, _∙_}
-use mathlib.Core.Bool.{Bool, true, false, _&&_, not}
+use mathlib.Core.Bool.{Bool, true, false, _&&_, not, true≢false}
 use mathlib.Core.List.{List, [], _∷_, append-nil}
 use Prim.Native.Nat.{ℕ, zero, suc, _*_, _%_, _≤_, _<_}
 use native.Mathlib.Nat.{add-zero}
@@ -35,6 +35,7 @@ use Rattle.writer.specs.Calls.{blockOf, writeAnswer, writeOutput}
 use Rattle.reader.specs.Calls.{startedBy, startOf}
 use Rattle.image.specs.Calls.{keysOf, blocksBy, turnAfter, turnOf}
 use Rattle.tally.specs.declared.BlocksRead.{BlocksRead}
+use Rattle.write_answers.specs.declared.WriteAnswer.{WriteAnswer}
 use Rattle.write_answers.specs.declared.WriteAnswer.the-variants.{Written, WriteKey, WriteCount, WriteNumber, WriteLength, WriteEdition, WriteRoom}
 use Rattle.write_answers.specs.declared.Numbers.{Numbers}
 use Rattle.reader.specs.declared.Reader.{Reader}
@@ -157,40 +158,43 @@ no-edition n e = (λ q. unlike (sym (rw q refl) ∙ e), λ q. unlike (sym (rw q 
     unlike e = let y : _≡_ {A = ℕ} 0 1 = cc in omega arith
 
 -- every answer says what the table says of it
-pub answer-says : (ekey ckey : List ℕ) (n : Numbers) (p out : List ℕ) → WriteSays ekey ckey n (length p) (length out) (writeAnswer ekey ckey n p out)
-unfolding writeAnswer writeRuled
-answer-says ekey ckey n p out =
-    go (bothTaken (scheduleOf sBox ekey) (scheduleOf sBox ckey)) (countFits (n .count)) (ltb (n .number) (n .count)) (lengthFits (n .number) (n .count) (length p)) (isEdition (n .edition)) (ltb (length out) 512) refl refl refl refl refl refl
+-- of whether the keys were taken, the numbers, and the lengths of payload and output
+pub write-ruled : (keys : Bool) (n : Numbers) (len room : ℕ) (P : WriteAnswer → Type 0)
+    → (keys ≡ false → P WriteKey) → (keys ≡ true → (0 < n .count → n .count ≤ 65535 → ⊥) → P WriteCount)
+    → (keys ≡ true → 0 < n .count → n .count ≤ 65535 → n .count ≤ n .number → P WriteNumber)
+    → (keys ≡ true → n .count ≤ 65535 → n .number < n .count → lengthFits (n .number) (n .count) len ≡ false → P WriteLength)
+    → (keys ≡ true → n .count ≤ 65535 → n .number < n .count → lengthFits (n .number) (n .count) len ≡ true → isEdition (n .edition) ≡ false → P WriteEdition)
+    → (keys ≡ true → n .count ≤ 65535 → n .number < n .count → lengthFits (n .number) (n .count) len ≡ true → isEdition (n .edition) ≡ true → room < 512 → P WriteRoom)
+    → (keys ≡ true → 0 < n .count → n .count ≤ 65535 → n .number < n .count → lengthFits (n .number) (n .count) len ≡ true → isEdition (n .edition) ≡ true → 512 ≤ room → P Written)
+    → P (writeRuled keys n len room)
+unfolding writeRuled
+write-ruled keys n len room P k c m l e o d =
+    go keys (countFits (n .count)) (ltb (n .number) (n .count)) (lengthFits (n .number) (n .count) len) (isEdition (n .edition)) (ltb room 512) refl refl refl refl refl refl
   where
-    unlike : (t : Bool) → t ≡ true → t ≡ false → ⊥
-    unlike t e f = let z : true ≡ false = sym e ∙ f in let y : _≡_ {A = ℕ} 0 1 = cc in omega arith
+    go : (a b u v i w : Bool) → keys ≡ a → countFits (n .count) ≡ b → ltb (n .number) (n .count) ≡ u → lengthFits (n .number) (n .count) len ≡ v → isEdition (n .edition) ≡ i → ltb room 512 ≡ w
+        → P (choose (not a) WriteKey (choose (not b) WriteCount (choose (not u) WriteNumber (choose (not v) WriteLength (choose (not i) WriteEdition (choose w WriteRoom Written))))))
+    go false b u v i w ea eb eu ev ei ew = k ea
+    go true false u v i w ea eb eu ev ei ew = c ea (λ x y. true≢false (sym (fits-count (n .count) x y) ∙ eb))
+    go true true false v i w ea eb eu ev ei ew = let f = count-fits (n .count) eb in m ea (f .0) (f .1) (ltb-false (n .number) (n .count) eu)
+    go true true true false i w ea eb eu ev ei ew = l ea (count-fits (n .count) eb .1) (ltb-true (n .number) (n .count) eu) ev
+    go true true true true false w ea eb eu ev ei ew = e ea (count-fits (n .count) eb .1) (ltb-true (n .number) (n .count) eu) ev ei
+    go true true true true true true ea eb eu ev ei ew = o ea (count-fits (n .count) eb .1) (ltb-true (n .number) (n .count) eu) ev ei (ltb-true room 512 ew)
+    go true true true true true false ea eb eu ev ei ew = let f = count-fits (n .count) eb in d ea (f .0) (f .1) (ltb-true (n .number) (n .count) eu) ev ei (ltb-false room 512 ew)
 
+pub answer-says : (ekey ckey : List ℕ) (n : Numbers) (p out : List ℕ) → WriteSays ekey ckey n (length p) (length out) (writeAnswer ekey ckey n p out)
+unfolding writeAnswer
+answer-says ekey ckey n p out =
+    write-ruled (bothTaken (scheduleOf sBox ekey) (scheduleOf sBox ckey)) n (length p) (length out) (WriteSays ekey ckey n (length p) (length out))
+    (λ e te tc. true≢false (sym (taken-both (scheduleOf sBox ekey) (scheduleOf sBox ckey) te tc) ∙ e))
+    (λ e c. let k = keys e in (k .0, k .1, c))
+    (λ e l h b. let k = keys e in (k .0, k .1, l, h, b))
+    (λ e h b f. let k = keys e in (k .0, k .1, h, b, f))
+    (λ e h b f i. let k = keys e in let x = no-edition (n .edition) i in (k .0, k .1, h, b, f, x .0, x .1))
+    (λ e h b f i m. let k = keys e in (k .0, k .1, h, b, f, i, m))
+    (λ e l h b f i m. let k = keys e in record { ekey-taken = k .0; ckey-taken = k .1; count-low = l; count-high = h; below = b; len-fits = f; known = i; roomy = m })
+  where
     keys : bothTaken (scheduleOf sBox ekey) (scheduleOf sBox ckey) ≡ true → KeyTaken ekey × KeyTaken ckey
     keys e = both-taken (scheduleOf sBox ekey) (scheduleOf sBox ckey) e
-
-    go : (a b c d i e : Bool) → bothTaken (scheduleOf sBox ekey) (scheduleOf sBox ckey) ≡ a → countFits (n .count) ≡ b → ltb (n .number) (n .count) ≡ c → lengthFits (n .number) (n .count) (length p) ≡ d
-        → isEdition (n .edition) ≡ i → ltb (length out) 512 ≡ e
-        → WriteSays ekey ckey n (length p) (length out)
-        (choose (not a) WriteKey (choose (not b) WriteCount (choose (not c) WriteNumber (choose (not d) WriteLength (choose (not i) WriteEdition (choose e WriteRoom Written))))))
-    go false b c d i e ea eb ec ed ei ee = λ te tc. unlike (bothTaken (scheduleOf sBox ekey) (scheduleOf sBox ckey)) (taken-both (scheduleOf sBox ekey) (scheduleOf sBox ckey) te tc) ea
-    go true false c d i e ea eb ec ed ei ee = let k = keys ea in (k .0, k .1, λ l h. unlike (countFits (n .count)) (fits-count (n .count) l h) eb)
-    go true true false d i e ea eb ec ed ei ee = let k = keys ea in let f = count-fits (n .count) eb in (k .0, k .1, f .0, f .1, ltb-false (n .number) (n .count) ec)
-    go true true true false i e ea eb ec ed ei ee = let k = keys ea in let f = count-fits (n .count) eb in (k .0, k .1, f .1, ltb-true (n .number) (n .count) ec, ed)
-    go true true true true false e ea eb ec ed ei ee = let k = keys ea in let f = count-fits (n .count) eb in let x = no-edition (n .edition) ei in (k .0, k .1, f .1, ltb-true (n .number) (n .count) ec, ed, x .0, x .1)
-    go true true true true true true ea eb ec ed ei ee = let k = keys ea in let f = count-fits (n .count) eb in (k .0, k .1, f .1, ltb-true (n .number) (n .count) ec, ed, ei, ltb-true (length out) 512 ee)
-    go true true true true true false ea eb ec ed ei ee =
-        let k = keys ea in
-        let c = count-fits (n .count) eb in
-        record {
-          ekey-taken = k .0;
-          ckey-taken = k .1;
-          count-low = c .0;
-          count-high = c .1;
-          below = ltb-true (n .number) (n .count) ec;
-          len-fits = ed;
-          known = ei;
-          roomy = ltb-false (length out) 512 ee;
-        }
 
 -- it writes where all that it asks holds, and only there
 pub written-fit : (ekey ckey : List ℕ) (n : Numbers) (p out : List ℕ) → writeAnswer ekey ckey n p out ≡ Written → Fit ekey ckey n (length p) (length out)

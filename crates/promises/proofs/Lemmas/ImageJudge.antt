@@ -29,13 +29,13 @@ use Rattle.reasons.specs.declared.Reason.the-variants.{AfterLast, CheckWrong, C
 use Rattle.reasons.specs.declared.Verdict.{Verdict}
 use Rattle.reasons.specs.declared.Verdict.the-variants.{Accepted, Refused}
 use Rattle.layout.proofs.Laws.{Wide, head-bytes}
-use Rattle.reasons.proofs.Order.{all-false, all-accepted}
+use Rattle.reasons.proofs.Order.{AllFalse, all-false, all-accepted}
 use Rattle.octets.proofs.Same.{same-true}
 use Rattle.octets.proofs.Both.{and-true}
 use Rattle.format.specs.Sealed.{filled, front, sealed, opened, checks, zeroAfter, fillZero}
 use Rattle.format.specs.Edition.{Edition}
 use Rattle.format.specs.Judge.{Keys, tests, judge}
-use Rattle.promises.proofs.ImageTerms.{Right, Met, Row, rank, Says, unchecked, payload}
+use Rattle.promises.proofs.ImageTerms.{Right, Met, HeadRow, Row, rank, HeadSays, Says, unchecked, payload}
 use Rattle.promises.proofs.Lemmas.ImageSealed.{fill-of, sealed-size, sealed-bytes, sealed-checks, sealed-head, sealed-fill, same-block}
 
 -- ---- tests
@@ -221,42 +221,77 @@ first-told R i (t ∷ ts) w holds none r e = go (t .0) refl e (first-told R (suc
         (subst R same (w .1 f), λ q h. none q (omega arith))
     go false f g rest = rest (λ q h x. ⊎-elim (λ z. true-false (t .0) (here q z x) f) (λ l. none q l x) (eq-or-lt-of-le {n = rank q} {m = i} (omega arith))) r g
 
+-- tests none of which holds
+none-holds : (ts : List (Bool × Reason)) → AllFalse ts → (n : ℕ) → testAt ts n ≡ false
+unfolding testAt
+none-holds [] f n = refl
+none-holds (t ∷ ts) f zero = f .0
+none-holds (t ∷ ts) f (suc n) = none-holds ts (f .1) n
+
+module _ (mark : ℕ) (s : Progress) (h : Head) where
+  head-ranked : Ranked (HeadRow mark s h) 2 (headTests mark s h)
+  unfolding headTests
+  head-ranked = (
+    refl,
+    λ e. (refl, λ l m. true-false (countFits (h .count)) (fits-count (h .count) l m) (not-true (countFits (h .count)) e)),
+    (
+      refl,
+      λ e. (refl, eqb-false (h .number) (s .next) (not-true (eqb (h .number) (s .next)) e)),
+      (
+        refl,
+        λ e. let a = and-true (ltb 0 (s .next)) (not (eqb (h .count) (s .count))) e in (refl, ltb-true 0 (s .next) (a .0), eqb-false (h .count) (s .count) (not-true (eqb (h .count) (s .count)) (a .1))),
+        (
+          refl,
+          λ e. let a = and-true (ltb 0 (s .next)) (not (eqb (h .release) (s .release))) e in (refl, ltb-true 0 (s .next) (a .0), eqb-false (h .release) (s .release) (not-true (eqb (h .release) (s .release)) (a .1))),
+          (
+            refl,
+            λ e. (refl, not-true (lengthFits (h .number) (h .count) (h .len)) e),
+            (refl, λ e. (refl, eqb-false (h .reserved) mark (not-true (eqb (h .reserved) mark) e)), tt),
+          ),
+        ),
+      ),
+    ),
+  )
+
+  -- a row that holds is a test that does
+  head-test : (q : Reason) → HeadRow mark s h q → testAt (headTests mark s h) (rank q - 2) ≡ true
+  unfolding testAt headTests
+  head-test (Count v) x = ap not (either (countFits (h .count)) (λ e. let c = count-fits (h .count) e in x .1 (omega (arith, x .0, c .0)) (omega (arith, x .0, c .1))))
+  head-test (Number v) x = ap not (ne-eqb (h .number) (s .next) (λ e. x .1 (x .0 ∙ e)))
+  head-test (OtherCount v) x = rw (lt-ltb 0 (s .next) (x .1)) (ap not (ne-eqb (h .count) (s .count) (λ e. x .2 (x .0 ∙ e))))
+  head-test (OtherRelease v) x = rw (lt-ltb 0 (s .next) (x .1)) (ap not (ne-eqb (h .release) (s .release) (λ e. x .2 (x .0 ∙ e))))
+  head-test (Length v) x = ap not (ap (lengthFits (h .number) (h .count)) (sym (x .0)) ∙ x .1)
+  head-test (Reserved v) x = ap not (ne-eqb (h .reserved) mark (λ e. x .1 (x .0 ∙ e)))
+  head-test AfterLast x = absurd x
+  head-test CheckWrong x = absurd x
+  head-test FillNotZero x = absurd x
+
+  early : (q : Reason) → rank q < 2 → HeadRow mark s h q → ⊥
+  early (Count v) l x = omega arith
+  early (Number v) l x = omega arith
+  early (OtherCount v) l x = omega arith
+  early (OtherRelease v) l x = omega arith
+  early (Length v) l x = omega arith
+  early (Reserved v) l x = omega arith
+  early AfterLast l x = x
+  early CheckWrong l x = x
+  early FillNotZero l x = x
+
+  pub head-says : (v : Verdict) → firstOf (headTests mark s h) ≡ v → HeadSays mark s h v
+  head-says Accepted e = λ q x. true-false (testAt (headTests mark s h) (rank q - 2)) (head-test q x) (none-holds (headTests mark s h) (all-false (headTests mark s h) e) (rank q - 2))
+  head-says (Refused r) e = first-told (HeadRow mark s h) 2 (headTests mark s h) head-ranked (λ q x l. head-test q x) early r e
+
 module _ (k : Keys) (ed : Edition) (s : Progress) (b : List ℕ) where
   ranked : Ranked (Row k ed s b) 0 (tests k ed s b)
   unfolding headTests
   ranked =
-      let h = headOf b in
-      let p = s in (
+      let g = head-ranked (ed .mark) s (headOf b) in (
         refl,
-        λ e. closed-says p e,
+        λ e. closed-says s e,
         (
           refl,
           λ e. not-true (k .usable && checks (k .mac) (ed .tail (s .last)) b) e,
-          (
-            refl,
-            λ e. (refl, λ l m. true-false (countFits (h .count)) (fits-count (h .count) l m) (not-true (countFits (h .count)) e)),
-            (
-              refl,
-              λ e. (refl, eqb-false (h .number) (p .next) (not-true (eqb (h .number) (p .next)) e)),
-              (
-                refl,
-                λ e. let a = and-true (ltb 0 (p .next)) (not (eqb (h .count) (p .count))) e in (refl, ltb-true 0 (p .next) (a .0), eqb-false (h .count) (p .count) (not-true (eqb (h .count) (p .count)) (a .1))),
-                (
-                  refl,
-                  λ e. let a = and-true (ltb 0 (p .next)) (not (eqb (h .release) (p .release))) e in (refl, ltb-true 0 (p .next) (a .0), eqb-false (h .release) (p .release) (not-true (eqb (h .release) (p .release)) (a .1))),
-                  (
-                    refl,
-                    λ e. (refl, not-true (lengthFits (h .number) (h .count) (h .len)) e),
-                    (
-                      refl,
-                      λ e. (refl, eqb-false (h .reserved) (ed .mark) (not-true (eqb (h .reserved) (ed .mark)) e)),
-                      (refl, λ e. not-true (fillZero (k .enc) b) e, tt),
-                    ),
-                  ),
-                ),
-              ),
-            ),
-          ),
+          (refl, g .1, (refl, g .2 .1, (refl, g .2 .2 .1, (refl, g .2 .2 .2 .1, (refl, g .2 .2 .2 .2 .1, (refl, g .2 .2 .2 .2 .2 .1, (refl, λ e. not-true (fillZero (k .enc) b) e, tt))))))),
         ),
       )
 
@@ -265,12 +300,12 @@ module _ (k : Keys) (ed : Edition) (s : Progress) (b : List ℕ) where
   unfolding testAt headTests
   row-test AfterLast x h = says-closed s (x .0) (x .1)
   row-test CheckWrong x h = ap not x
-  row-test (Count v) x h = ap not (either (countFits (headOf b .count)) (λ e. let c = count-fits (headOf b .count) e in x .1 (omega (arith, x .0, c .0)) (omega (arith, x .0, c .1))))
-  row-test (Number v) x h = ap not (ne-eqb (headOf b .number) (s .next) (λ e. x .1 (x .0 ∙ e)))
-  row-test (OtherCount v) x h = rw (lt-ltb 0 (s .next) (x .1)) (ap not (ne-eqb (headOf b .count) (s .count) (λ e. x .2 (x .0 ∙ e))))
-  row-test (OtherRelease v) x h = rw (lt-ltb 0 (s .next) (x .1)) (ap not (ne-eqb (headOf b .release) (s .release) (λ e. x .2 (x .0 ∙ e))))
-  row-test (Length v) x h = ap not (ap (lengthFits (headOf b .number) (headOf b .count)) (sym (x .0)) ∙ x .1)
-  row-test (Reserved v) x h = ap not (ne-eqb (headOf b .reserved) (ed .mark) (λ e. x .1 (x .0 ∙ e)))
+  row-test (Count v) x h = head-test (ed .mark) s (headOf b) (Count v) x
+  row-test (Number v) x h = head-test (ed .mark) s (headOf b) (Number v) x
+  row-test (OtherCount v) x h = head-test (ed .mark) s (headOf b) (OtherCount v) x
+  row-test (OtherRelease v) x h = head-test (ed .mark) s (headOf b) (OtherRelease v) x
+  row-test (Length v) x h = head-test (ed .mark) s (headOf b) (Length v) x
+  row-test (Reserved v) x h = head-test (ed .mark) s (headOf b) (Reserved v) x
   row-test FillNotZero x h = ap not x
 
   refused-says : (r : Reason) → judge k ed s b ≡ Refused r → Says k ed s b (Refused r)
