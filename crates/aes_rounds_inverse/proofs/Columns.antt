@@ -2,11 +2,11 @@
 use mathlib.Core.Path.{_≡_, refl, _∙_}
 use mathlib.Core.List.{List}
 use Prim.Native.Nat.{ℕ}
-use Rattle.sbox.specs.Sbox.{invSBox}
-use Rattle.sbox.proofs.Laws.{invSBox-lt}
-use Rattle.mixing.specs.Mixing.{invMixColumn, invMixedEntry}
-use Rattle.mixing.proofs.Spin.{sub-mix-column-mixes-back}
-use Rattle.aes_lookup_rule.proofs.Rows.{rowsOf, rows-all}
+use Rattle.aes_sbox.specs.Sbox.{invSBox}
+use Rattle.aes_sbox.proofs.Laws.{invSBox-lt}
+use Rattle.aes_mix.specs.Mixing.{invMixColumn, invMixedEntry}
+use Rattle.aes_mix.proofs.Spin.{sub-mix-column-mixes-back}
+use Rattle.aes_model.proofs.Rows.{rowsOf, rows-all}
 use Rattle.aes_rounds_inverse.specs.Diagonals.{backFrom, invSubShifted}
 
 pub column-law : (t : List ℕ) (j : ℕ) → rowsOf (invMixedEntry invSBox) (backFrom t j) 4 ≡ invMixColumn (invSubShifted t j)

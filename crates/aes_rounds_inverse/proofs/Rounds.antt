@@ -8,13 +8,13 @@ use lib.ListN.{length, getD}
 use Rattle.octets.specs.Octets.{tabulate}
 use Rattle.octets.specs.Words.{byte, bytesOf}
 use Rattle.octets.proofs.Fill.{is-tabulate}
-use Rattle.sbox.specs.Sbox.{invSBox}
-use Rattle.sbox.proofs.Laws.{invSBox-lt}
-use Rattle.mixing.specs.Mixing.{invMixColumn}
-use Rattle.fips197.specs.State.{aes, subBytes, invShiftRows, invMixColumns, addRoundKey}
-use Rattle.fips197.specs.Equivalent.{eqRound, eqRounds}
-use Rattle.states.proofs.Keyed.{words-four, substituted, keyed, keyed-law}
-use Rattle.states.proofs.ByColumns.{four, inv-sub-shift-law, inv-mix-law}
+use Rattle.aes_sbox.specs.Sbox.{invSBox}
+use Rattle.aes_sbox.proofs.Laws.{invSBox-lt}
+use Rattle.aes_mix.specs.Mixing.{invMixColumn}
+use Rattle.aes_spec.specs.State.{aes, subBytes, invShiftRows, invMixColumns, addRoundKey}
+use Rattle.aes_spec.specs.Equivalent.{eqRound, eqRounds}
+use Rattle.aes_state.proofs.Keyed.{words-four, substituted, keyed, keyed-law}
+use Rattle.aes_state.proofs.ByColumns.{four, inv-sub-shift-law, inv-mix-law}
 use Rattle.aes_rounds_inverse.specs.Diagonals.{backFrom, invSubShifted}
 
 -- substituted and shifted back, all four columns

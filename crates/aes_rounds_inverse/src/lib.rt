@@ -2,12 +2,12 @@
 mod loops;
 
 use crate::loops::eq_inv_cipher;
-use schedule::is_round_count;
-use states::load;
-use states::store;
+use aes_schedule::is_round_count;
+use aes_state::load;
+use aes_state::store;
 ghost use mathlib.Core.Path.{_≡_};
-ghost use Rattle.sbox.specs.Sbox.{invSBox};
-ghost use Rattle.fips197.specs.Equivalent.{eqDecryptBlock};
+ghost use Rattle.aes_sbox.specs.Sbox.{invSBox};
+ghost use Rattle.aes_spec.specs.Equivalent.{eqDecryptBlock};
 
 // The schedule is one that aes_schedule_inverse has made; zeros where no key gives so many rounds.
 pub fn decrypt_block(words: &[u32; 60], rounds: usize, block: [u8; 16]) -> [u8; 16]

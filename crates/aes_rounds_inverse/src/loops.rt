@@ -1,19 +1,19 @@
 // EQINVCIPHER of FIPS 197, 5.3.5, on a state of four words, one a column, each round by lookups.
 use aes_lookup_inv_sbox::inv_sub_at;
 use aes_lookup_inverse::inverse_at;
-use schedule::RoundKeyNumber;
-use states::Columns;
-use states::as_columns;
-use states::load;
+use aes_schedule::RoundKeyNumber;
+use aes_state::Columns;
+use aes_state::as_columns;
+use aes_state::load;
 ghost use mathlib.Core.Path.{_≡_};
 ghost use Prim.Native.Nat.{_-_, _<_};
 ghost use Rattle.octets.specs.Words.{byte, bytesOf};
-ghost use Rattle.sbox.specs.Sbox.{invSBox};
-ghost use Rattle.mixing.specs.Mixing.{invMixColumn, invMixedEntry};
-ghost use Rattle.fips197.specs.State.{aes, addRoundKey, invShiftRows, subBytes};
-ghost use Rattle.fips197.specs.Equivalent as spec;
-ghost use Rattle.states.specs.Columns.{blockOf};
-ghost use Rattle.aes_lookup_rule.specs.Turned.{turned};
+ghost use Rattle.aes_sbox.specs.Sbox.{invSBox};
+ghost use Rattle.aes_mix.specs.Mixing.{invMixColumn, invMixedEntry};
+ghost use Rattle.aes_spec.specs.State.{aes, addRoundKey, invShiftRows, subBytes};
+ghost use Rattle.aes_spec.specs.Equivalent as spec;
+ghost use Rattle.aes_state.specs.Columns.{blockOf};
+ghost use Rattle.aes_model.specs.Turned.{turned};
 ghost use Rattle.aes_rounds_inverse.specs.Diagonals.{invSubShifted};
 
 pub fn eq_inv_cipher(words: &[u32; 60], rounds: usize, s: Columns) -> Columns

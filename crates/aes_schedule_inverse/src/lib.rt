@@ -1,11 +1,11 @@
 // The schedule for the way back, FIPS 197, 5.3.5: the round keys mixed back, so that lookups can mix the state before a key is added.
-use mixing::inv_mix_column;
-use schedule::RoundKeyNumber;
-use schedule::is_round_count;
+use aes_mix::inv_mix_column;
+use aes_schedule::RoundKeyNumber;
+use aes_schedule::is_round_count;
 ghost use mathlib.Core.Path.{_≡_};
 ghost use Prim.Native.Nat.{_≤_};
 ghost use lib.ListN.{length};
-ghost use Rattle.fips197.specs.Equivalent.{mixedBack, inverseWords};
+ghost use Rattle.aes_spec.specs.Equivalent.{mixedBack, inverseWords};
 
 // In place of the schedule for the way forth; that stays where no key gives so many rounds.
 pub fn invert(words: &mut [u32; 60], rounds: usize)

@@ -5,17 +5,17 @@ use mathlib.Core.List.{List, [], _∷_, _++_, append-nil, append-assoc}
 use Prim.Native.Nat.{ℕ}
 use lib.ListN.{replicate}
 use Rattle.octets.specs.Octets.{joined}
-use Rattle.sbox.specs.Sbox.{sBox}
-use Rattle.schedule.specs.Schedule.{scheduleOf, roundCount}
-use Rattle.fips197.specs.Cipher.{encryptBlock, standard}
-use Rattle.fips197.specs.Cipher.{encryptBlock, standard}
-use Rattle.sbox.specs.Sbox.{sBox}
-use Rattle.sp800_38b.specs.Cmac.{ended, cmac}
-use Rattle.running.specs.Running.{runFrom, closed}
+use Rattle.aes_sbox.specs.Sbox.{sBox}
+use Rattle.aes_schedule.specs.Schedule.{scheduleOf, roundCount}
+use Rattle.aes_spec.specs.Cipher.{encryptBlock, standard}
+use Rattle.aes_spec.specs.Cipher.{encryptBlock, standard}
+use Rattle.aes_sbox.specs.Sbox.{sBox}
+use Rattle.cmac_spec.specs.Cmac.{ended, cmac}
+use Rattle.cmac_run.specs.Running.{runFrom, closed}
 use Rattle.cmac.specs.Calls.{checkOf, recordOf, startOf, fedWith, closeOf, fedParts}
-use Rattle.running.specs.declared.Run.{Run}
+use Rattle.cmac_run.specs.declared.Run.{Run}
 use Rattle.cmac.specs.declared.Record.{Record}
-use Rattle.running.proofs.Laws.{fed-taken, begun-taken, whole}
+use Rattle.cmac_run.proofs.Laws.{fed-taken, begun-taken, whole}
 
 module _ (w : List ℕ) (nr : ℕ) where
   -- a record under a schedule, by the bytes that it was fed

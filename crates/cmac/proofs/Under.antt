@@ -2,13 +2,13 @@
 use mathlib.Core.Path.{_≡_}
 use mathlib.Core.List.{List}
 use Prim.Native.Nat.{ℕ}
-use Rattle.sbox.specs.Sbox.{sBox}
-use Rattle.schedule.specs.Schedule.{scheduleOf}
-use Rattle.schedule.specs.declared.Expanded.{Expanded}
-use Rattle.fips197.specs.Cipher.{standard}
-use Rattle.sp800_38b.specs.Cmac.{cmac}
-use Rattle.running.specs.Running.{fed, closed}
-use Rattle.running.specs.declared.Run.{Run}
+use Rattle.aes_sbox.specs.Sbox.{sBox}
+use Rattle.aes_schedule.specs.Schedule.{scheduleOf}
+use Rattle.aes_schedule.specs.declared.Expanded.{Expanded}
+use Rattle.aes_spec.specs.Cipher.{standard}
+use Rattle.cmac_spec.specs.Cmac.{cmac}
+use Rattle.cmac_run.specs.Running.{fed, closed}
+use Rattle.cmac_run.specs.declared.Run.{Run}
 use Rattle.cmac.specs.Calls.{checkOf, runOf, recordOf, fedWith, closeOf}
 use Rattle.cmac.specs.declared.Record.{Record}
 use Rattle.cmac.specs.declared.Checked.{Checked}

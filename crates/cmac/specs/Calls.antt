@@ -1,13 +1,13 @@
 -- The definitions of the calls: the check under a key, whole and running. Assumes nothing: these are definitions.
 use Prim.Native.Nat.{ℕ}
 use mathlib.Core.List.{List, [], _∷_}
-use Rattle.sbox.specs.Sbox.{sBox}
-use Rattle.schedule.specs.Schedule.{scheduleOf}
-use Rattle.schedule.specs.declared.Expanded.{Expanded}
-use Rattle.fips197.specs.Cipher.{standard}
-use Rattle.sp800_38b.specs.Cmac.{cmac}
-use Rattle.running.specs.Running.{begun, fed, closed}
-use Rattle.running.specs.declared.Run.{Run}
+use Rattle.aes_sbox.specs.Sbox.{sBox}
+use Rattle.aes_schedule.specs.Schedule.{scheduleOf}
+use Rattle.aes_schedule.specs.declared.Expanded.{Expanded}
+use Rattle.aes_spec.specs.Cipher.{standard}
+use Rattle.cmac_spec.specs.Cmac.{cmac}
+use Rattle.cmac_run.specs.Running.{begun, fed, closed}
+use Rattle.cmac_run.specs.declared.Run.{Run}
 use Rattle.cmac.specs.declared.Record.{Record}
 use Rattle.cmac.specs.declared.Checked.{Checked}
 use Rattle.cmac.specs.declared.Started.{Started}

@@ -1,11 +1,11 @@
 // CMAC of SP 800-38B under AES: the check of a message, whole, or running over the parts in which it comes.
-use running::Run;
-use schedule::KeyAnswer;
-use schedule::KeySchedule;
+use aes_schedule::KeyAnswer;
+use aes_schedule::KeySchedule;
+use cmac_run::Run;
 ghost use mathlib.Core.Path.{_≡_};
-ghost use Rattle.fips197.specs.Cipher.{standard};
-ghost use Rattle.sp800_38b.specs.Cmac as spec;
-ghost use Rattle.running.specs.Running as running;
+ghost use Rattle.aes_spec.specs.Cipher.{standard};
+ghost use Rattle.cmac_spec.specs.Cmac as spec;
+ghost use Rattle.cmac_run.specs.Running as running;
 ghost use Rattle.cmac.specs.Calls as calls;
 
 // The answer for the key, and the check: zeros where the key was refused.
@@ -85,8 +85,8 @@ pub fn check_with(words: &[u32; 60], rounds: usize, message: &[u8]) -> [u8; 16]
 fn close_run(words: &[u32; 60], rounds: usize, run: Run) -> [u8; 16]
     ensures { λ r. ⌜ r ≡ running.closed (standard (now (words .entry)) rounds) run ⌝ }
 {
-    let key1 = subkeys::key1(words, rounds);
-    let key2 = subkeys::key2(key1);
+    let key1 = cmac_subkeys::key1(words, rounds);
+    let key2 = cmac_subkeys::key2(key1);
     run.closed(words, rounds, &key1, &key2)
 }
 

@@ -7,8 +7,8 @@
 //     n  a number of 32 bits
 //     w  a number of 64 bits
 //     o  what the output holds before the call
-use hex::Decoded;
-use numbers::Number;
+use text_decimal::Number;
+use text_hex::Decoded;
 ghost use Rattle.io.specs.Counts.{Counts};
 
 // Bytes go to the memory of inputs one after the other, those of word k from ends[k - 1] up to ends[k]. The bytes of an
@@ -28,13 +28,13 @@ pub struct Taken {
 
 // The words of a line that has the form of a row of the table of calls, or `ok` false.
 pub fn take(line: &[u8], row: &[u8; 26], ins: &mut [u8], outs: &mut [u8]) -> Args {
-    let mut ok = lines::count(line) == lines::find(lines::part(row, 16, 26), 0, 32);
+    let mut ok = text_words::count(line) == text_words::find(text_words::part(row, 16, 26), 0, 32);
     let mut ends = [0usize; 10];
     let mut numbers = [0u64; 10];
     let mut at: usize = 0;
     let mut k: usize = 1;
     while k < 10 {
-        let t = read_word(row[16 + k], lines::word(line, k), ins, outs, at);
+        let t = read_word(row[16 + k], text_words::word(line, k), ins, outs, at);
         if !t.ok {
             ok = false;
         }
@@ -52,15 +52,15 @@ fn read_word(kind: u8, word: &[u8], ins: &mut [u8], outs: &mut [u8], at: usize) 
         return of_number(Number::Is(0), at);
     }
     if kind == b'n' {
-        return of_number(numbers::decimal(word, 4294967295), at);
+        return of_number(text_decimal::decimal(word, 4294967295), at);
     }
     if kind == b'w' {
-        return of_number(numbers::decimal(word, 18446744073709551615), at);
+        return of_number(text_decimal::decimal(word, 18446744073709551615), at);
     }
     if kind == b'o' {
-        return of_output(hex::decode(word, outs, 0), at);
+        return of_output(text_hex::decode(word, outs, 0), at);
     }
-    of_bytes(kind, hex::decode(word, ins, at), at)
+    of_bytes(kind, text_hex::decode(word, ins, at), at)
 }
 
 fn bad(at: usize) -> Taken {
@@ -127,7 +127,7 @@ pub fn bytes(ins: &[u8], a: Args, k: usize) -> &[u8] {
     if 10 <= k {
         return &ins[..0];
     }
-    lines::part(ins, ends[k - 1], ends[k])
+    text_words::part(ins, ends[k - 1], ends[k])
 }
 
 // How many bytes at the front of its memory the output has that is word k, so that a call is lent `&mut outs[..n]`.
@@ -168,5 +168,5 @@ pub fn byte(ins: &[u8], a: Args, k: usize) -> u8 {
 
 // The block of word k where the form asks for one.
 pub fn block(ins: &[u8], a: Args, k: usize) -> [u8; 16] {
-    blocks::load(bytes(ins, a, k), 0)
+    octets_block::load(bytes(ins, a, k), 0)
 }

@@ -2,9 +2,9 @@
 // `decrypt KEY BLOCK`.
 use crate::args;
 use crate::print;
+use aes::Ciphered;
+use aes_schedule::KeySchedule;
 use args::Args;
-use cipher::Ciphered;
-use schedule::KeySchedule;
 
 pub enum BasicCall {
     Product,
@@ -36,11 +36,11 @@ fn expand(ins: &[u8], a: Args, text: &mut [u8], at: usize) -> usize {
 }
 
 fn encrypt(ins: &[u8], a: Args) -> Ciphered {
-    cipher::encrypt(args::bytes(ins, a, 1), args::block(ins, a, 2))
+    aes::encrypt(args::bytes(ins, a, 1), args::block(ins, a, 2))
 }
 
 fn decrypt(ins: &[u8], a: Args) -> Ciphered {
-    cipher::decrypt(args::bytes(ins, a, 1), args::block(ins, a, 2))
+    aes::decrypt(args::bytes(ins, a, 1), args::block(ins, a, 2))
 }
 
 fn ciphered(c: Ciphered, text: &mut [u8], at: usize) -> usize {

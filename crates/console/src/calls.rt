@@ -10,7 +10,7 @@ use args::Args;
 use basic::BasicCall;
 use checked::CheckCall;
 use imaged::ImageCall;
-use sp800_38a::Operation;
+use modes_spec::Operation;
 use wrapped::WrapCall;
 
 // A row has the name of a call, and from its place 16 on the form of its line: the letters are in args.rt.
@@ -94,12 +94,12 @@ fn row_of(w: &[u8]) -> usize {
 }
 
 fn has_name(row: [u8; 26], w: &[u8]) -> bool {
-    check::same(w, lines::part(&row, 0, lines::find(&row, 0, 32)))
+    check::same(w, text_words::part(&row, 0, text_words::find(&row, 0, 32)))
 }
 
 // Puts the answer to a line after those that wait; for a bad line nothing is put and nothing held changes.
 pub fn answer(held: Held, line: &[u8], ins: &mut [u8], outs: &mut [u8], text: &mut [u8]) -> Held {
-    let k = row_of(lines::word(line, 0));
+    let k = row_of(text_words::word(line, 0));
     let a = args::take(line, &row(k), ins, outs);
     if !a.ok {
         return held;

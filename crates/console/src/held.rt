@@ -1,8 +1,8 @@
 // What the console holds from line to line.
+use aes_schedule::KeySchedule;
 use cmac::Record;
-use progress::Progress;
-use reader::Reader;
-use schedule::KeySchedule;
+use image_progress::Progress;
+use image_reader::Reader;
 
 // The answers that wait to be written end at `end`, and `cut` says that a write failed; a call that keeps a value has its field here.
 pub struct Held {

@@ -5,8 +5,8 @@ use crate::held::Held;
 use crate::print;
 use crate::stopped;
 use args::Args;
-use reader::Turn;
-use write_answers::Numbers;
+use image_reader::Turn;
+use image_writer_answer::Numbers;
 
 pub enum ImageCall {
     Write,
@@ -34,7 +34,7 @@ pub fn answer(
 
 fn write(ins: &[u8], a: Args, outs: &mut [u8], text: &mut [u8], at: usize) -> usize {
     let n = args::out_len(a, 9, outs);
-    let r = writer::write(
+    let r = image_writer::write(
         args::bytes(ins, a, 1),
         args::bytes(ins, a, 2),
         numbers(a),
@@ -42,7 +42,7 @@ fn write(ins: &[u8], a: Args, outs: &mut [u8], text: &mut [u8], at: usize) -> us
         args::bytes(ins, a, 8),
         &mut outs[..n],
     );
-    print::number_bytes(r.number() as u64, lines::part(outs, 0, n), text, at)
+    print::number_bytes(r.number() as u64, text_words::part(outs, 0, n), text, at)
 }
 
 fn numbers(a: Args) -> Numbers {
@@ -55,7 +55,7 @@ fn numbers(a: Args) -> Numbers {
 }
 
 fn start(held: Held, ins: &[u8], a: Args, text: &mut [u8], at: usize) -> Held {
-    let s = reader::read_start(args::bytes(ins, a, 1), args::bytes(ins, a, 2));
+    let s = image_reader::read_start(args::bytes(ins, a, 1), args::bytes(ins, a, 2));
     let answer = s.answer;
     let reader = s.reader;
     held.with_reader(reader)
@@ -67,17 +67,17 @@ fn turn(held: Held, ins: &[u8], a: Args, outs: &mut [u8], text: &mut [u8], at: u
     let n = args::out_len(a, 3, outs);
     let blocks = args::bytes(ins, a, 2);
     let t = image::read_turn(reader, blocks, args::count(a, 1), &mut outs[..n]);
-    after_turn(held, t, lines::part(outs, 0, n), text, at)
+    after_turn(held, t, text_words::part(outs, 0, n), text, at)
 }
 
 fn after_turn(held: Held, t: Turn, out: &[u8], text: &mut [u8], at: usize) -> Held {
     let reader = t.reader;
     let p = print::six(stopped::turn_numbers(t), text, at);
-    held.with_reader(reader).at(places::put_hex(out, text, p))
+    held.with_reader(reader).at(text_put::put_hex(out, text, p))
 }
 
 fn complete(held: Held, text: &mut [u8], at: usize) -> usize {
     let reader = held.reader;
-    let c = reader::read_complete(reader);
+    let c = image_reader::read_complete(reader);
     print::number(c.number() as u64, text, at)
 }

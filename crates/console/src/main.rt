@@ -67,7 +67,7 @@ fn extend(p: Place, s: &[u8], line: &mut [u8]) -> Place {
         return Place { len: n, over: true };
     }
     Place {
-        len: places::put(s, line, n),
+        len: text_put::put(s, line, n),
         over: p.over,
     }
 }
@@ -77,7 +77,7 @@ fn written(held: Held, text: &[u8]) -> Held {
     if held.cut {
         return held.at(0);
     }
-    if streams::is_written(lines::part(text, 0, held.end)) {
+    if streams::is_written(text_words::part(text, 0, held.end)) {
         return held.at(0);
     }
     held.at(0).cut_off()
@@ -105,16 +105,16 @@ fn finish(
     if p.over {
         return held.at(close(from, from, text));
     }
-    let d = calls::answer(held, lines::part(line, 0, p.len), ins, outs, text);
+    let d = calls::answer(held, text_words::part(line, 0, p.len), ins, outs, text);
     let to = d.end;
     d.at(close(from, to, text))
 }
 
 fn close(from: usize, to: usize, text: &mut [u8]) -> usize {
     if from == to {
-        return places::put(b"?\n", text, to);
+        return text_put::put(b"?\n", text, to);
     }
-    places::put(b"\n", text, to)
+    text_put::put(b"\n", text, to)
 }
 
 // Reads `part` from `at` up to its next line feed, or its end.
@@ -131,8 +131,8 @@ fn feed_line(
     requires { ⌜ at < length (now part) ⌝ }
     ensures { λ r. ⌜ at < r .at ⌝ }
 {
-    let e = lines::find(part, at, 10);
-    let place = extend(p, lines::part(part, at, e), line);
+    let e = text_words::find(part, at, 10);
+    let place = extend(p, text_words::part(part, at, e), line);
     if part.len() <= e {
         return Fed {
             held,

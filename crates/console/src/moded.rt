@@ -3,7 +3,7 @@
 use crate::args;
 use crate::print;
 use args::Args;
-use sp800_38a::Operation;
+use modes_spec::Operation;
 
 pub fn answer(
     operation: Operation,
@@ -25,8 +25,8 @@ pub fn answer(
     let told = r.answer;
     let next = r.next;
     let p = number_next(told.number() as u64, chains, next, text, at);
-    let q = places::put(b" ", text, p);
-    places::put_hex(lines::part(outs, 0, n), text, q)
+    let q = text_put::put(b" ", text, p);
+    text_put::put_hex(text_words::part(outs, 0, n), text, q)
 }
 
 // `N`, or `N NEXT`

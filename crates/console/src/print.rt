@@ -5,13 +5,13 @@ use crate::stopped::NONE;
 pub fn number(n: u64, text: &mut [u8], at: usize) -> usize {
     let mut digits = [0u8; 20];
     let k = io::decimal(n, &mut digits);
-    places::put(&digits[..k], text, at)
+    text_put::put(&digits[..k], text, at)
 }
 
 // A number, or `-` for the mark that there is none.
 fn number_or_dash(n: u64, text: &mut [u8], at: usize) -> usize {
     if n == NONE {
-        return places::put(b"-", text, at);
+        return text_put::put(b"-", text, at);
     }
     number(n, text, at)
 }
@@ -21,7 +21,7 @@ pub fn six(numbers: [u64; 6], text: &mut [u8], at: usize) -> usize {
     let mut p = at;
     for i in 0..6 {
         let q = number_or_dash(numbers[i], text, p);
-        p = places::put(b" ", text, q);
+        p = text_put::put(b" ", text, q);
     }
     p
 }
@@ -29,20 +29,20 @@ pub fn six(numbers: [u64; 6], text: &mut [u8], at: usize) -> usize {
 // `N BYTES`
 pub fn number_bytes(n: u64, bytes: &[u8], text: &mut [u8], at: usize) -> usize {
     let p = number(n, text, at);
-    let q = places::put(b" ", text, p);
-    places::put_hex(bytes, text, q)
+    let q = text_put::put(b" ", text, p);
+    text_put::put_hex(bytes, text, q)
 }
 
 // A word as eight hex digits, the high byte first.
 fn word(x: u32, text: &mut [u8], at: usize) -> usize {
-    let b = words::word_bytes(x);
-    places::put_hex(&b, text, at)
+    let b = aes_words::word_bytes(x);
+    text_put::put_hex(&b, text, at)
 }
 
 // `N WORDS`
 pub fn number_words(n: u64, words: [u32; 60], text: &mut [u8], at: usize) -> usize {
     let p = number(n, text, at);
-    let mut q = places::put(b" ", text, p);
+    let mut q = text_put::put(b" ", text, p);
     for i in 0..60 {
         q = word(words[i], text, q);
     }

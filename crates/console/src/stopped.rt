@@ -1,9 +1,9 @@
 // How a turn of a reader stopped, as six numbers: `N ACCEPTED SUM PLACE REASON VALUE`. N is a refusal of the whole turn; a
 // block that stopped it has PLACE, REASON and, where the reason holds one, VALUE.
-use reader::Turn;
-use reasons::Reason;
-use reasons::Value;
-use tally::Stop;
+use image_reader::Turn;
+use image_reader_tally::Stop;
+use image_reasons::Reason;
+use image_reasons::Value;
 
 // Stands where there is no number: none of the six is as large.
 pub const NONE: u64 = 18446744073709551615;

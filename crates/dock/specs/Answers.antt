@@ -1,17 +1,17 @@
 -- The answers as C has them: numbers in place of enums. Assumes nothing: these are definitions.
 use Prim.Native.Nat.{ℕ}
 use mathlib.Core.List.{List}
-use Rattle.schedule.specs.Schedule.{keyNumber}
-use Rattle.schedule.specs.declared.Expanded.{Expanded}
-use Rattle.cipher.specs.declared.Ciphered.{Ciphered}
-use Rattle.mode_answers.specs.Answers.{modeNumber}
+use Rattle.aes_schedule.specs.Schedule.{keyNumber}
+use Rattle.aes_schedule.specs.declared.Expanded.{Expanded}
+use Rattle.aes.specs.declared.Ciphered.{Ciphered}
+use Rattle.modes_answer.specs.Answers.{modeNumber}
 use Rattle.modes.specs.Calls.{modeAnswer, modeOutput, answerWith}
 use Rattle.modes.specs.declared.Applied.{Applied}
-use Rattle.sp800_38a.specs.declared.Operation.{Operation}
+use Rattle.modes_spec.specs.declared.Operation.{Operation}
 use Rattle.cmac.specs.declared.Checked.{Checked}
 use Rattle.cmac.specs.declared.Started.{Started}
-use Rattle.write_answers.specs.declared.Numbers.{Numbers}
-use Rattle.reader.specs.declared.ReadStarted.{ReadStarted}
+use Rattle.image_writer_answer.specs.declared.Numbers.{Numbers}
+use Rattle.image_reader.specs.declared.ReadStarted.{ReadStarted}
 use Rattle.dock.specs.declared.ScheduleAnswer.{ScheduleAnswer}
 use Rattle.dock.specs.declared.BlockAnswer.{BlockAnswer}
 use Rattle.dock.specs.declared.ChainAnswer.{ChainAnswer}

@@ -1,30 +1,30 @@
 // What C links: the calls on slices and numbers, with the refusals' numbers in place of enums, and structs by value but for the
 // record of a running check, which is lent to be fed.
-use cipher::Ciphered;
+use aes::Ciphered;
+use aes_schedule::KeySchedule;
 use cmac::Record;
-use reader::Reader;
-use schedule::KeySchedule;
-use sp800_38a::Operation;
-use turn_answers::TurnAnswer;
-use turn_answers::turn_answer;
-use write_answers::Numbers;
+use dock_turn::TurnAnswer;
+use dock_turn::turn_answer;
+use image_reader::Reader;
+use image_writer_answer::Numbers;
+use modes_spec::Operation;
 ghost use mathlib.Core.Path.{_≡_};
 ghost use Rattle.field.specs.Field.{_•_};
-ghost use Rattle.sbox.specs.Sbox.{sBox};
-ghost use Rattle.schedule.specs.Schedule.{scheduleOf};
-ghost use Rattle.cipher.specs.Calls.{encryptUnder, decryptUnder};
-ghost use Rattle.sp800_38a.specs.declared.Operation.the-variants.{EcbEncrypt, EcbDecrypt, CbcEncrypt, CbcDecrypt, CfbEncrypt, CfbDecrypt, Ofb};
-ghost use Rattle.mode_answers.specs.Answers.{modeNumber};
+ghost use Rattle.aes_sbox.specs.Sbox.{sBox};
+ghost use Rattle.aes_schedule.specs.Schedule.{scheduleOf};
+ghost use Rattle.aes.specs.Calls.{encryptUnder, decryptUnder};
+ghost use Rattle.modes_spec.specs.declared.Operation.the-variants.{EcbEncrypt, EcbDecrypt, CbcEncrypt, CbcDecrypt, CfbEncrypt, CfbDecrypt, Ofb};
+ghost use Rattle.modes_answer.specs.Answers.{modeNumber};
 ghost use Rattle.modes.specs.Calls.{modeAnswer};
 ghost use Rattle.cmac.specs.Calls.{checkOf, startOf, fedWith, closeOf};
-ghost use Rattle.write_answers.specs.Answers.{writeNumber};
-ghost use Rattle.writer.specs.Calls.{writeAnswer, writeOutput};
-ghost use Rattle.reader.specs.Calls as readers;
+ghost use Rattle.image_writer_answer.specs.Answers.{writeNumber};
+ghost use Rattle.image_writer.specs.Calls.{writeAnswer, writeOutput};
+ghost use Rattle.image_reader.specs.Calls as readers;
 ghost use Rattle.image.specs.Calls.{turnOf};
-ghost use Rattle.wrap_answers.specs.Answers.{wrapNumber};
+ghost use Rattle.wrap_answer.specs.Answers.{wrapNumber};
 ghost use Rattle.wrap.specs.Calls.{wrapAnswer, wrapOutput, unwrapAnswer, unwrapOutput};
 ghost use Rattle.dock.specs.Answers.{scheduleAnswer, blockAnswer, chainAnswer, modeApplied, afterMode, checkAnswer, startAnswer, closeAnswer, readStartAnswer, numbers};
-ghost use Rattle.turn_answers.specs.Answers.{turnAnswer};
+ghost use Rattle.dock_turn.specs.Answers.{turnAnswer};
 
 // Sixteen bytes by value: C passes no array so.
 #[repr(C)]
@@ -98,7 +98,7 @@ pub extern "C" fn dock_encrypt(key: &[u8], block: Block) -> BlockAnswer
     ensures { λ r. ⌜ r ≡ blockAnswer (encryptUnder (now (key .entry)) (block .bytes)) ⌝ }
 {
     let bytes = block.bytes;
-    block_answer(cipher::encrypt(key, bytes))
+    block_answer(aes::encrypt(key, bytes))
 }
 
 #[no_mangle]
@@ -106,7 +106,7 @@ pub extern "C" fn dock_decrypt(key: &[u8], block: Block) -> BlockAnswer
     ensures { λ r. ⌜ r ≡ blockAnswer (decryptUnder (now (key .entry)) (block .bytes)) ⌝ }
 {
     let bytes = block.bytes;
-    block_answer(cipher::decrypt(key, bytes))
+    block_answer(aes::decrypt(key, bytes))
 }
 
 // The modes: the IV is empty in ECB and 16 bytes in the others. ECB has no chaining value to hand on.
@@ -250,7 +250,7 @@ pub extern "C" fn dock_write(
         edition,
     };
     let bytes = previous.bytes;
-    let answer = writer::write(ekey, ckey, numbers, bytes, payload, output);
+    let answer = image_writer::write(ekey, ckey, numbers, bytes, payload, output);
     answer.number()
 }
 
@@ -258,7 +258,7 @@ pub extern "C" fn dock_write(
 pub extern "C" fn dock_read_start(ekey: &[u8], ckey: &[u8]) -> ReadStartAnswer
     ensures { λ r. ⌜ r ≡ readStartAnswer (readers.startOf (now (ekey .entry)) (now (ckey .entry))) ⌝ }
 {
-    let s = reader::read_start(ekey, ckey);
+    let s = image_reader::read_start(ekey, ckey);
     let answer = s.answer;
     let reader = s.reader;
     ReadStartAnswer {
@@ -285,7 +285,7 @@ pub extern "C" fn dock_read_turn(
 pub extern "C" fn dock_read_complete(reader: Reader) -> u32
     ensures { λ r. ⌜ r ≡ readers.completionNumber (readers.completionOf reader) ⌝ }
 {
-    let answer = reader::read_complete(reader);
+    let answer = image_reader::read_complete(reader);
     answer.number()
 }
 

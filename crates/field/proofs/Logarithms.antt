@@ -12,8 +12,8 @@ use lib.Dec.{T, eqb, ltb, eqb→eq, ltb→lt}
 use Rattle.octets.specs.Octets.{choose, xor, entry}
 use Rattle.octets.proofs.Tests.{both-left, both-right, at-each, below, on-bytes}
 use Rattle.octets.proofs.Xor.{lt-or-le}
-use Rattle.logarithms.specs.Tables.{lTable}
-use Rattle.powers.specs.Tables.{eTable}
+use Rattle.field_log.specs.Tables.{lTable}
+use Rattle.field_exp.specs.Tables.{eTable}
 use Rattle.field.specs.Field.{xTimes, productWithin, _•_}
 use Rattle.field.specs.Logarithms.{E, logarithmBelow, L, added, lookedUp}
 use Rattle.field.proofs.Laws.{double-lt, double-xor, product-step, product-zero, product-three, product-lt, product-xor}

@@ -1,6 +1,6 @@
 // The field of FIPS 197, section 4: doubling and the product of two bytes.
-use logarithms::logarithm;
-use powers::power;
+use field_exp::power;
+use field_log::logarithm;
 ghost use mathlib.Core.Path.{_≡_};
 ghost use Rattle.field.specs.Field.{xTimes, _•_};
 ghost use Rattle.field.specs.Logarithms.{added};

@@ -1,11 +1,11 @@
 -- The call: a turn of a reader. Assumes nothing: these are definitions.
 use Prim.Native.Nat.{ℕ}
 use mathlib.Core.List.{List}
-use Rattle.format.specs.Judge.{Keys, BlockReader, ofBoth}
-use Rattle.tally.specs.declared.BlocksRead.{BlocksRead}
-use Rattle.turns.specs.Turn.{keysUnder, turnUnder}
-use Rattle.reader.specs.declared.Reader.{Reader}
-use Rattle.reader.specs.declared.Turn.{Turn}
+use Rattle.image_spec.specs.Judge.{Keys, BlockReader, ofBoth}
+use Rattle.image_reader_tally.specs.declared.BlocksRead.{BlocksRead}
+use Rattle.image_reader_turn.specs.Turn.{keysUnder, turnUnder}
+use Rattle.image_reader.specs.declared.Reader.{Reader}
+use Rattle.image_reader.specs.declared.Turn.{Turn}
 
 abbrev pub keysOf : Reader → Keys
 keysOf r = keysUnder (r .enc .words) (r .chk .words) (record { enc = r .enc .rounds; chk = r .chk .rounds })

@@ -1,8 +1,8 @@
 // A turn: a reader of release images takes blocks in.
-use format::Rounds;
-use reader::Reader;
-use reader::Turn;
-use turns::turn;
+use image_reader::Reader;
+use image_reader::Turn;
+use image_reader_turn::turn;
+use image_spec::Rounds;
 ghost use mathlib.Core.Path.{_≡_};
 ghost use Rattle.image.specs.Calls as spec;
 

@@ -3,11 +3,11 @@
 mod rows;
 mod source;
 
+use aes_schedule::KeyAnswer;
+use image_reader::ReadStarted;
+use image_reader::Reader;
+use image_reader::Turn;
 use libc::STDOUT_FILENO;
-use reader::ReadStarted;
-use reader::Reader;
-use reader::Turn;
-use schedule::KeyAnswer;
 use source::Source;
 
 // The lines that wait to be written. A line has at most 63 bytes: three numbers of up to 20 digits, two spaces, a line feed.
@@ -47,7 +47,7 @@ impl Listed {
 }
 
 fn is_written(end: usize, text: &Text) -> bool {
-    if io::write_all(STDOUT_FILENO, lines::part(text, 0, end)) {
+    if io::write_all(STDOUT_FILENO, text_words::part(text, 0, end)) {
         return true;
     }
     source::write_failed();
@@ -134,7 +134,7 @@ fn list_blocks(reader: Reader, fd: i32, text: &mut Text) -> Listed {
 fn is_complete(l: Listed, text: &mut Text) -> bool {
     let reader = l.reader;
     let accepted = reader.progress.next;
-    let complete = reader::read_complete(reader).number() as u64;
+    let complete = image_reader::read_complete(reader).number() as u64;
     let end = rows::last(complete, accepted as u64, text, l.end);
     if is_written(end, text) {
         return complete == 0;
@@ -163,7 +163,10 @@ fn is_whole(reader: Reader, fd: i32) -> bool {
 
 // Where the input ends within the keys, the one that is short or missing is refused like any other of a wrong length.
 fn start(keys: &[u8]) -> ReadStarted {
-    reader::read_start(lines::part(keys, 0, 16), lines::part(keys, 16, 32))
+    image_reader::read_start(
+        text_words::part(keys, 0, 16),
+        text_words::part(keys, 16, 32),
+    )
 }
 
 fn list(s: Source) {

@@ -6,25 +6,25 @@ use types.Run.{OneOf, miss}
 use denote.Enum.Declared.{tagOf}
 use lib.ListN.{length, replicate}
 use Rattle.octets.specs.Octets.{Bytes}
-use Rattle.sbox.specs.Sbox.{sBox}
-use Rattle.schedule.specs.Schedule.{scheduleOf, keyNumber}
-use Rattle.schedule.specs.declared.Expanded.{Expanded}
-use Rattle.schedule.proofs.Laws.{schedule-length}
-use Rattle.blocks.specs.Blocks.{blockAt}
-use Rattle.fips197.specs.Cipher.{aesOf}
-use Rattle.fips197.specs.Equivalent.{equivalentCipher, inverseWords}
-use Rattle.fips197.proofs.Equivalent.{equivalent-agrees}
-use Rattle.fips197.proofs.Aes.{key-lawful}
-use Rattle.sp800_38a.specs.Pieces.{pieceCount}
-use Rattle.sp800_38a.specs.Modes.{ivLength}
-use Rattle.pieces.specs.Runs.{runOver}
-use Rattle.pieces.proofs.Agree.{through-mode, iv-chain, iv-same, handed-iv}
-use Rattle.sp800_38a.specs.declared.Operation.{Operation}
-use Rattle.mode_answers.specs.Answers.{modeNumber, leftOver, judged}
-use Rattle.mode_answers.specs.declared.ModeAnswer.{ModeAnswer}
-use Rattle.mode_answers.specs.declared.ModeAnswer.the-variants.{Done, BadKey, BadIv, NotPieces, OutputShort}
-use Rattle.mode_answers.proofs.ModeAnswer.{the-type}
-use Rattle.mode_answers.proofs.Answers.{met, left-none}
+use Rattle.aes_sbox.specs.Sbox.{sBox}
+use Rattle.aes_schedule.specs.Schedule.{scheduleOf, keyNumber}
+use Rattle.aes_schedule.specs.declared.Expanded.{Expanded}
+use Rattle.aes_schedule.proofs.Laws.{schedule-length}
+use Rattle.octets_block.specs.Blocks.{blockAt}
+use Rattle.aes_spec.specs.Cipher.{aesOf}
+use Rattle.aes_spec.specs.Equivalent.{equivalentCipher, inverseWords}
+use Rattle.aes_spec.proofs.Equivalent.{equivalent-agrees}
+use Rattle.aes_spec.proofs.Aes.{key-lawful}
+use Rattle.modes_spec.specs.Pieces.{pieceCount}
+use Rattle.modes_spec.specs.Modes.{ivLength}
+use Rattle.modes_run.specs.Runs.{runOver}
+use Rattle.modes_run.proofs.Agree.{through-mode, iv-chain, iv-same, handed-iv}
+use Rattle.modes_spec.specs.declared.Operation.{Operation}
+use Rattle.modes_answer.specs.Answers.{modeNumber, leftOver, judged}
+use Rattle.modes_answer.specs.declared.ModeAnswer.{ModeAnswer}
+use Rattle.modes_answer.specs.declared.ModeAnswer.the-variants.{Done, BadKey, BadIv, NotPieces, OutputShort}
+use Rattle.modes_answer.proofs.ModeAnswer.{the-type}
+use Rattle.modes_answer.proofs.Answers.{met, left-none}
 use Rattle.modes.specs.Calls.{modeAnswer, modeOutput, modeNext, answerWith}
 use Rattle.modes.specs.declared.Applied.{Applied}
 

@@ -3,12 +3,12 @@ use mathlib.Core.Path.{_≡_, refl}
 use mathlib.Core.List.{List}
 use Prim.Native.Nat.{ℕ}
 use lib.ListN.{replicate}
-use Rattle.fips197.specs.Cipher.{aesOf}
-use Rattle.sp800_38a.specs.Modes.{handedOn}
-use Rattle.sp800_38a.specs.declared.Operation.{Operation}
-use Rattle.sp800_38a.specs.declared.Operation.the-variants.{EcbEncrypt, EcbDecrypt}
-use Rattle.sp800_38a.proofs.Pins.{all-but-ecb-chain}
-use Rattle.mode_answers.specs.declared.ModeAnswer.the-variants.{Done}
+use Rattle.aes_spec.specs.Cipher.{aesOf}
+use Rattle.modes_spec.specs.Modes.{handedOn}
+use Rattle.modes_spec.specs.declared.Operation.{Operation}
+use Rattle.modes_spec.specs.declared.Operation.the-variants.{EcbEncrypt, EcbDecrypt}
+use Rattle.modes_spec.proofs.Pins.{all-but-ecb-chain}
+use Rattle.modes_answer.specs.declared.ModeAnswer.the-variants.{Done}
 use Rattle.modes.specs.Calls.{modeNext}
 
 -- CBC, CFB and OFB hand back the next chaining value, ECB zeros

@@ -3,14 +3,14 @@ use Prim.Native.Nat.{ℕ}
 use mathlib.Core.List.{List}
 use lib.ListN.{length, replicate}
 use Rattle.octets.specs.Octets.{choose, over}
-use Rattle.sbox.specs.Sbox.{sBox}
-use Rattle.schedule.specs.Schedule.{scheduleOf, keyNumber}
-use Rattle.fips197.specs.Cipher.{aesOf}
-use Rattle.sp800_38a.specs.Modes.{ivLength, chains, moded, handedOn}
-use Rattle.sp800_38a.specs.declared.Operation.{Operation}
-use Rattle.mode_answers.specs.Answers.{leftOver, judged}
-use Rattle.mode_answers.specs.declared.ModeAnswer.{ModeAnswer}
-use Rattle.mode_answers.specs.declared.ModeAnswer.the-variants.{Done, BadKey, BadIv, NotPieces, OutputShort}
+use Rattle.aes_sbox.specs.Sbox.{sBox}
+use Rattle.aes_schedule.specs.Schedule.{scheduleOf, keyNumber}
+use Rattle.aes_spec.specs.Cipher.{aesOf}
+use Rattle.modes_spec.specs.Modes.{ivLength, chains, moded, handedOn}
+use Rattle.modes_spec.specs.declared.Operation.{Operation}
+use Rattle.modes_answer.specs.Answers.{leftOver, judged}
+use Rattle.modes_answer.specs.declared.ModeAnswer.{ModeAnswer}
+use Rattle.modes_answer.specs.declared.ModeAnswer.the-variants.{Done, BadKey, BadIv, NotPieces, OutputShort}
 use Rattle.modes.specs.declared.Applied.{Applied}
 
 -- the answer of a call, from its key and the lengths of the rest

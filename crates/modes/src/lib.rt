@@ -1,14 +1,14 @@
 // The modes of SP 800-38A under a key: ECB, CBC and CFB with 16-byte segments each way, on whole pieces of 16 bytes, and OFB on any length.
+use aes_schedule::KeySchedule;
 use aes_schedule_inverse::inverse_words;
-use blocks::load;
-use mode_answers::ModeAnswer;
-use mode_answers::judge;
-use schedule::KeySchedule;
-use sp800_38a::Operation;
+use modes_answer::ModeAnswer;
+use modes_answer::judge;
+use modes_spec::Operation;
+use octets_block::load;
 ghost use mathlib.Core.Path.{_≡_};
-ghost use Rattle.fips197.specs.Equivalent.{equivalentCipher, inverseWords};
-ghost use Rattle.sp800_38a.specs.Modes as standard;
-ghost use Rattle.pieces.specs.Runs.{runOver};
+ghost use Rattle.aes_spec.specs.Equivalent.{equivalentCipher, inverseWords};
+ghost use Rattle.modes_spec.specs.Modes as standard;
+ghost use Rattle.modes_run.specs.Runs.{runOver};
 ghost use Rattle.modes.specs.Calls.{modeAnswer, modeOutput, answerWith};
 
 // An answer, and the chaining value handed on: the last ciphertext block, in OFB the last cipher output, for an empty input the IV.
@@ -60,9 +60,9 @@ fn under_schedule(
     if inverts(operation) {
         let mut inverse = [0u32; 60];
         inverse_words(words, rounds, &mut inverse);
-        return pieces::run(&inverse, rounds, operation, iv, input, output);
+        return modes_run::run(&inverse, rounds, operation, iv, input, output);
     }
-    pieces::run(words, rounds, operation, iv, input, output)
+    modes_run::run(words, rounds, operation, iv, input, output)
 }
 
 // Whether an operation uses the inverse cipher: decryption in CFB does not, nor does OFB.

@@ -6,44 +6,44 @@ use denote.Ref.{now}
 use lib.ListN.{length}
 use Prim.Native.Nat.{_+_}
 use lib.Dec.{leb}
-use Rattle.blocks.specs.Blocks.{fits, blockPut}
-use Rattle.slices.specs.Slices.{copied}
-use Rattle.schedule.specs.Schedule.{roundCount}
-use Rattle.expansion.specs.Expansion.{expandable, expandedOver}
-use Rattle.fips197.specs.Equivalent.{inverseWords}
-use Rattle.states.specs.Columns.{blockOf}
+use Rattle.octets_block.specs.Blocks.{fits, blockPut}
+use Rattle.octets_slice.specs.Slices.{copied}
+use Rattle.aes_schedule.specs.Schedule.{roundCount}
+use Rattle.aes_expand.specs.Expansion.{expandable, expandedOver}
+use Rattle.aes_spec.specs.Equivalent.{inverseWords}
+use Rattle.aes_state.specs.Columns.{blockOf}
 use Rattle.field.proofs.double.Reads as double
 use Rattle.field.proofs.product.Reads as product
-use Rattle.logarithms.proofs.logarithm.Reads as logarithm
-use Rattle.powers.proofs.power.Reads as power
-use Rattle.sbox.proofs.table.Reads as table
-use Rattle.sbox.proofs.inv_table.Reads as inv-table
-use Rattle.blocks.proofs.load.Reads as load
-use Rattle.slices.proofs.copy.Reads as copy
-use Rattle.slices.proofs.has_room.Reads as has-room
-use Rattle.blocks.proofs.store.Reads as store
-use Rattle.blocks.proofs.xor.Reads as xor
-use Rattle.words.proofs.join.Reads as join
-use Rattle.words.proofs.rot_word.Reads as rot-word
-use Rattle.words.proofs.rot_two.Reads as rot-two
-use Rattle.words.proofs.rot_three.Reads as rot-three
-use Rattle.words.proofs.sub_word.Reads as sub-word
-use Rattle.mixing.proofs.mix_column.Reads as mix-column
-use Rattle.mixing.proofs.inv_mix_column.Reads as inv-mix-column
-use Rattle.expansion.proofs.expand_into.Reads as expand-into
-use Rattle.schedule.proofs.KeySchedule.new.Reads as new
-use Rattle.schedule.proofs.schedule_into.Reads as schedule-into
-use Rattle.schedule.proofs.answer_of.Reads as answer-of
-use Rattle.schedule.proofs.is_round_count.Reads as is-round-count
-use Rattle.words.proofs.word_bytes.Reads as word-bytes
-use Rattle.schedule.proofs.RoundKeyNumber.first_word.Reads as first-word
-use Rattle.states.proofs.load.Reads as load-state
-use Rattle.states.proofs.store.Reads as store-state
-use Rattle.states.proofs.as_columns.Reads as as-columns
-use Rattle.cipher.proofs.encrypt.Reads as encrypt
-use Rattle.cipher.proofs.decrypt.Reads as decrypt
-use Rattle.rounds.proofs.encrypt_block.Reads as encrypt-block
-use Rattle.rounds.proofs.absorb.Reads as absorb
+use Rattle.field_log.proofs.logarithm.Reads as logarithm
+use Rattle.field_exp.proofs.power.Reads as power
+use Rattle.aes_sbox.proofs.table.Reads as table
+use Rattle.aes_sbox.proofs.inv_table.Reads as inv-table
+use Rattle.octets_block.proofs.load.Reads as load
+use Rattle.octets_slice.proofs.copy.Reads as copy
+use Rattle.octets_slice.proofs.has_room.Reads as has-room
+use Rattle.octets_block.proofs.store.Reads as store
+use Rattle.octets_block.proofs.xor.Reads as xor
+use Rattle.aes_words.proofs.join.Reads as join
+use Rattle.aes_words.proofs.rot_word.Reads as rot-word
+use Rattle.aes_words.proofs.rot_two.Reads as rot-two
+use Rattle.aes_words.proofs.rot_three.Reads as rot-three
+use Rattle.aes_words.proofs.sub_word.Reads as sub-word
+use Rattle.aes_mix.proofs.mix_column.Reads as mix-column
+use Rattle.aes_mix.proofs.inv_mix_column.Reads as inv-mix-column
+use Rattle.aes_expand.proofs.expand_into.Reads as expand-into
+use Rattle.aes_schedule.proofs.KeySchedule.new.Reads as new
+use Rattle.aes_schedule.proofs.schedule_into.Reads as schedule-into
+use Rattle.aes_schedule.proofs.answer_of.Reads as answer-of
+use Rattle.aes_schedule.proofs.is_round_count.Reads as is-round-count
+use Rattle.aes_words.proofs.word_bytes.Reads as word-bytes
+use Rattle.aes_schedule.proofs.RoundKeyNumber.first_word.Reads as first-word
+use Rattle.aes_state.proofs.load.Reads as load-state
+use Rattle.aes_state.proofs.store.Reads as store-state
+use Rattle.aes_state.proofs.as_columns.Reads as as-columns
+use Rattle.aes.proofs.encrypt.Reads as encrypt
+use Rattle.aes.proofs.decrypt.Reads as decrypt
+use Rattle.aes_rounds.proofs.encrypt_block.Reads as encrypt-block
+use Rattle.aes_rounds.proofs.absorb.Reads as absorb
 use Rattle.aes_rounds_inverse.proofs.decrypt_block.Reads as decrypt-block
 use Rattle.aes_schedule_inverse.proofs.invert.Reads as invert
 use Rattle.aes_schedule_inverse.proofs.inverse_words.Reads as inverse-words

@@ -7,35 +7,35 @@ use denote.Ref.{now}
 use lib.ListN.{length, replicate}
 use Rattle.octets.specs.Octets.{joined, Bytes, padTo}
 use Rattle.octets.specs.Blocks.{BlockCipher}
-use Rattle.sbox.specs.Sbox.{sBox, invSBox}
-use Rattle.schedule.specs.Schedule.{taken, refused, scheduleOf, keyNumber, roundCount}
-use Rattle.schedule.specs.declared.Expanded.{Expanded}
-use Rattle.fips197.specs.State.{aes}
-use Rattle.fips197.specs.Cipher.{cipher, invCipher, encryptBlock, decryptBlock, aesOf, standard}
-use Rattle.fips197.proofs.Padding.{cipher-padded, inv-cipher-padded}
-use Rattle.fips197.proofs.Aes.{key-lawful}
-use Rattle.sp800_38b.specs.Cmac.{doubled, key1, key2, cmac, cmacBy, SameOutside}
-use Rattle.running.specs.Running.{begun}
+use Rattle.aes_sbox.specs.Sbox.{sBox, invSBox}
+use Rattle.aes_schedule.specs.Schedule.{taken, refused, scheduleOf, keyNumber, roundCount}
+use Rattle.aes_schedule.specs.declared.Expanded.{Expanded}
+use Rattle.aes_spec.specs.State.{aes}
+use Rattle.aes_spec.specs.Cipher.{cipher, invCipher, encryptBlock, decryptBlock, aesOf, standard}
+use Rattle.aes_spec.proofs.Padding.{cipher-padded, inv-cipher-padded}
+use Rattle.aes_spec.proofs.Aes.{key-lawful}
+use Rattle.cmac_spec.specs.Cmac.{doubled, key1, key2, cmac, cmacBy, SameOutside}
+use Rattle.cmac_run.specs.Running.{begun}
 use Rattle.cmac.specs.Calls.{checkedBy, checkOf, startedBy, startOf, fedWith, closeOf, fedParts}
 use Rattle.cmac.specs.declared.Record.{Record}
 use Rattle.cmac.specs.declared.Checked.{Checked}
 use Rattle.cmac.specs.declared.Started.{Started}
-use Rattle.sp800_38b.proofs.OnePiece.{one-piece}
-use Rattle.sp800_38b.proofs.Same.{cmac-by}
+use Rattle.cmac_spec.proofs.OnePiece.{one-piece}
+use Rattle.cmac_spec.proofs.Same.{cmac-by}
 use Rattle.cmac.proofs.Parts.{running-whole, close-zeros, cmac-zeros}
 use Rattle.promises.proofs.Cipher.{KeySize, NoKeySize, sized, unsized, known-rounds, expanded}
-use Rattle.subkeys.proofs.filled.Reads as filled
-use Rattle.subkeys.proofs.key1.Reads as first-subkey
-use Rattle.subkeys.proofs.key2.Reads as second-subkey
-use Rattle.subkeys.proofs.last.Reads as last
+use Rattle.cmac_subkeys.proofs.filled.Reads as filled
+use Rattle.cmac_subkeys.proofs.key1.Reads as first-subkey
+use Rattle.cmac_subkeys.proofs.key2.Reads as second-subkey
+use Rattle.cmac_subkeys.proofs.last.Reads as last
 use Rattle.cmac.proofs.check.Reads as check
 use Rattle.cmac.proofs.start.Reads as start
 use Rattle.cmac.proofs.fed_with.Reads as fed-with
 use Rattle.cmac.proofs.close.Reads as close
 use Rattle.cmac.proofs.check_with.Reads as check-with
-use Rattle.running.proofs.Run.new.Reads as run-new
-use Rattle.running.proofs.Run.fed.Reads as run-fed
-use Rattle.running.proofs.Run.closed.Reads as run-closed
+use Rattle.cmac_run.proofs.Run.new.Reads as run-new
+use Rattle.cmac_run.proofs.Run.fed.Reads as run-fed
+use Rattle.cmac_run.proofs.Run.closed.Reads as run-closed
 
 -- ---- demand 1: every call asks nothing of its caller, and any two outcomes that its contract allows agree
 

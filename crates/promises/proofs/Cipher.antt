@@ -8,22 +8,22 @@ use denote.Ref.{now}
 use borrow.Author.Tests.{eq-eqb, ne-eqb}
 use lib.ListN.{length, replicate}
 use Rattle.octets.specs.Octets.{Octets, padTo}
-use Rattle.sbox.specs.Sbox.{sBox, invSBox}
-use Rattle.expansion.specs.Expansion.{keyExpansion}
-use Rattle.schedule.specs.Schedule.{taken, refused, scheduleOf, keyNumber, roundCount}
-use Rattle.schedule.specs.declared.Expanded.{Expanded}
-use Rattle.schedule.specs.declared.KeyAnswer.the-variants.{Taken, KeyLength}
-use Rattle.fips197.specs.State.{aes}
-use Rattle.fips197.specs.Cipher.{cipher, invCipher, encryptBlock, decryptBlock}
-use Rattle.cipher.specs.Calls.{encryptUnder, decryptUnder}
-use Rattle.cipher.specs.declared.Ciphered.{Ciphered}
-use Rattle.fips197.proofs.State.{aes-regular}
-use Rattle.fips197.proofs.Undo.{decipher-cipher, cipher-decipher}
-use Rattle.fips197.proofs.Aes.{sBox-inverse}
-use Rattle.fips197.proofs.Padding.{cipher-padded, inv-cipher-padded}
-use Rattle.schedule.proofs.KeySchedule.new.Reads as new
-use Rattle.cipher.proofs.encrypt.Reads as encrypt
-use Rattle.cipher.proofs.decrypt.Reads as decrypt
+use Rattle.aes_sbox.specs.Sbox.{sBox, invSBox}
+use Rattle.aes_expand.specs.Expansion.{keyExpansion}
+use Rattle.aes_schedule.specs.Schedule.{taken, refused, scheduleOf, keyNumber, roundCount}
+use Rattle.aes_schedule.specs.declared.Expanded.{Expanded}
+use Rattle.aes_schedule.specs.declared.KeyAnswer.the-variants.{Taken, KeyLength}
+use Rattle.aes_spec.specs.State.{aes}
+use Rattle.aes_spec.specs.Cipher.{cipher, invCipher, encryptBlock, decryptBlock}
+use Rattle.aes.specs.Calls.{encryptUnder, decryptUnder}
+use Rattle.aes.specs.declared.Ciphered.{Ciphered}
+use Rattle.aes_spec.proofs.State.{aes-regular}
+use Rattle.aes_spec.proofs.Undo.{decipher-cipher, cipher-decipher}
+use Rattle.aes_spec.proofs.Aes.{sBox-inverse}
+use Rattle.aes_spec.proofs.Padding.{cipher-padded, inv-cipher-padded}
+use Rattle.aes_schedule.proofs.KeySchedule.new.Reads as new
+use Rattle.aes.proofs.encrypt.Reads as encrypt
+use Rattle.aes.proofs.decrypt.Reads as decrypt
 
 -- FIPS 197, table 3: bytes of the key, Nk and Nr
 pub data KeySize : ℕ → ℕ → ℕ → Type 0 where

@@ -8,16 +8,16 @@ use native.Mathlib.Omega.{arith}
 use denote.Ref.{now}
 use lib.ListN.{length, take, drop}
 use lib.Seq.{drop-drop}
-use Rattle.limits.specs.Fits.{countFits, lengthFits}
+use Rattle.image_limits.specs.Fits.{countFits, lengthFits}
 use Rattle.octets.specs.Blocks.{BlockCipher}
-use Rattle.format.specs.Edition.{Edition, noCheck}
-use Rattle.format.specs.Sealed.{blockFor}
+use Rattle.image_spec.specs.Edition.{Edition, noCheck}
+use Rattle.image_spec.specs.Sealed.{blockFor}
 use Rattle.promises.proofs.ImageTerms.{blocks, written, image}
-use Rattle.cut.specs.declared.Counted.the-variants.{Blocks, TooLong}
-use Rattle.cut.specs.Cut.{most, blocksOf, partOf, joined}
-use Rattle.cut.proofs.CutLaws as laws
-use Rattle.cut.proofs.block_count.Reads as block-count
-use Rattle.cut.proofs.block_part.Reads as block-part
+use Rattle.image_cut.specs.declared.Counted.the-variants.{Blocks, TooLong}
+use Rattle.image_cut.specs.Cut.{most, blocksOf, partOf, joined}
+use Rattle.image_cut.proofs.CutLaws as laws
+use Rattle.image_cut.proofs.block_count.Reads as block-count
+use Rattle.image_cut.proofs.block_part.Reads as block-part
 
 pub block-count-asks-nothing : (κs : _) (a : _) → block-count.Asked κs a
 block-count-asks-nothing κs a = tt

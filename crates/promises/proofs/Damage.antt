@@ -12,25 +12,25 @@ use lib.Dec.{eqb}
 use lib.ListN.{length, getD, take, drop}
 use lib.Seq.{drop-drop}
 use Rattle.octets.specs.Octets.{choose, Bytes, Octets}
-use Rattle.sp800_38b.specs.Cmac.{SameOutside}
-use Rattle.layout.specs.Layout.{headOf}
-use Rattle.layout.specs.declared.Head.{Head}
-use Rattle.limits.specs.Marks.{isEdition, selected, markOf}
-use Rattle.limits.proofs.Pins.{two-alone-selects, marks-and-covers}
-use Rattle.progress.specs.Progress.{closed}
-use Rattle.progress.specs.declared.Progress.{Progress}
-use Rattle.reasons.specs.declared.Reason.{Reason}
-use Rattle.reasons.specs.declared.Reason.the-variants.{AfterLast, CheckWrong}
-use Rattle.reasons.specs.declared.Verdict.{Verdict}
-use Rattle.reasons.specs.declared.Verdict.the-variants.{Accepted, Refused}
-use Rattle.format.specs.Edition.{tailOf}
-use Rattle.format.specs.Judge.{either, ofBoth}
-use Rattle.tally.specs.declared.Stop.the-variants.{At}
-use Rattle.turns.specs.Turn.{handled}
-use Rattle.write_answers.specs.Answers.{lastFor}
-use Rattle.write_answers.specs.declared.Numbers.{Numbers}
-use Rattle.reader.specs.declared.Reader.{Reader}
-use Rattle.reader.specs.declared.Turn.{Turn}
+use Rattle.cmac_spec.specs.Cmac.{SameOutside}
+use Rattle.image_layout.specs.Layout.{headOf}
+use Rattle.image_layout.specs.declared.Head.{Head}
+use Rattle.image_limits.specs.Marks.{isEdition, selected, markOf}
+use Rattle.image_limits.proofs.Pins.{two-alone-selects, marks-and-covers}
+use Rattle.image_progress.specs.Progress.{closed}
+use Rattle.image_progress.specs.declared.Progress.{Progress}
+use Rattle.image_reasons.specs.declared.Reason.{Reason}
+use Rattle.image_reasons.specs.declared.Reason.the-variants.{AfterLast, CheckWrong}
+use Rattle.image_reasons.specs.declared.Verdict.{Verdict}
+use Rattle.image_reasons.specs.declared.Verdict.the-variants.{Accepted, Refused}
+use Rattle.image_spec.specs.Edition.{tailOf}
+use Rattle.image_spec.specs.Judge.{either, ofBoth}
+use Rattle.image_reader_tally.specs.declared.Stop.the-variants.{At}
+use Rattle.image_reader_turn.specs.Turn.{handled}
+use Rattle.image_writer_answer.specs.Answers.{lastFor}
+use Rattle.image_writer_answer.specs.declared.Numbers.{Numbers}
+use Rattle.image_reader.specs.declared.Reader.{Reader}
+use Rattle.image_reader.specs.declared.Turn.{Turn}
 use Rattle.image.specs.Calls.{keysOf, blocksBy, turnOf}
 use Rattle.promises.proofs.ImageTerms.{SealedOn, Fit, Wrote, Fair, given, inState, readerOf, moved, readingOf}
 use Rattle.promises.proofs.Image.{damaged-is-refused, damaged-never-accepted, turn-state, turn-output}
@@ -40,7 +40,7 @@ use Rattle.promises.proofs.Lemmas.ImageBoth.{reserved-wide, no-mark}
 use Rattle.promises.proofs.Lemmas.ImageTurn.{stops-at}
 use Rattle.promises.proofs.Lemmas.ImageCalls.{cut-length, fair-turn, by-turn}
 use Rattle.promises.proofs.Lemmas.ImageRead.{fit, head-is}
-use Rattle.writer.proofs.write.Reads as write
+use Rattle.image_writer.proofs.write.Reads as write
 use Rattle.image.proofs.read_turn.Reads as read-turn
 
 -- ---- the words of this page

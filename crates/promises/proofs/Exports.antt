@@ -13,44 +13,44 @@ use contract.Monad.{Fun, fact, factI, fact-use}
 use contract.Lifetimes.{Lfts}
 use denote.Ref.{RefT, now}
 use lib.ListN.{replicate}
-use Rattle.mode_answers.specs.Answers.{modeNumber}
+use Rattle.modes_answer.specs.Answers.{modeNumber}
 use Rattle.modes.specs.Calls.{modeAnswer}
 use Rattle.modes.specs.declared.Applied.{Applied}
-use Rattle.sp800_38a.specs.declared.Operation.{Operation}
-use Rattle.sp800_38a.specs.declared.Operation.the-variants.{EcbEncrypt, EcbDecrypt, CbcEncrypt, CbcDecrypt, CfbEncrypt, CfbDecrypt, Ofb}
-use Rattle.write_answers.specs.Answers.{writeNumber}
-use Rattle.reader.specs.Calls.{startOf, completionNumber}
+use Rattle.modes_spec.specs.declared.Operation.{Operation}
+use Rattle.modes_spec.specs.declared.Operation.the-variants.{EcbEncrypt, EcbDecrypt, CbcEncrypt, CbcDecrypt, CfbEncrypt, CfbDecrypt, Ofb}
+use Rattle.image_writer_answer.specs.Answers.{writeNumber}
+use Rattle.image_reader.specs.Calls.{startOf, completionNumber}
 use Rattle.image.specs.Calls.{turnOf}
-use Rattle.tally.specs.declared.Stop.{Stop}
-use Rattle.tally.specs.declared.Stop.the-variants.{End, Asked, Lent, Room, At}
-use Rattle.reader.specs.declared.Turn.{Turn}
-use Rattle.wrap_answers.specs.Answers.{wrapNumber}
+use Rattle.image_reader_tally.specs.declared.Stop.{Stop}
+use Rattle.image_reader_tally.specs.declared.Stop.the-variants.{End, Asked, Lent, Room, At}
+use Rattle.image_reader.specs.declared.Turn.{Turn}
+use Rattle.wrap_answer.specs.Answers.{wrapNumber}
 use Rattle.dock.specs.Answers.{scheduleAnswer, blockAnswer, modeApplied, chainAnswer, afterMode, checkAnswer, startAnswer, closeAnswer, readStartAnswer, numbers}
-use Rattle.turn_answers.specs.Answers.{toldOf, turnAnswer}
+use Rattle.dock_turn.specs.Answers.{toldOf, turnAnswer}
 use Rattle.dock.specs.declared.ChainAnswer.{ChainAnswer}
 use Rattle.dock.specs.declared.ReadStartAnswer.{ReadStartAnswer}
-use Rattle.turn_answers.specs.declared.TurnAnswer.{TurnAnswer}
+use Rattle.dock_turn.specs.declared.TurnAnswer.{TurnAnswer}
 use Rattle.promises.proofs.ImageTerms.{Whole}
 use Rattle.promises.proofs.Image.{turn-refusal-keeps}
 use Rattle.promises.proofs.Modes.{apply-refused-keeps, apply-refused-zeros}
 use Rattle.promises.proofs.ImageDemands.{write-refused-keeps}
 use Rattle.promises.proofs.WrapDemands.{wrap-refused-keeps, unwrap-refused-keeps}
 use Rattle.field.proofs.product.Reads as product
-use Rattle.schedule.proofs.KeySchedule.new.Reads as new
-use Rattle.cipher.proofs.encrypt.Reads as encrypt
-use Rattle.cipher.proofs.decrypt.Reads as decrypt
+use Rattle.aes_schedule.proofs.KeySchedule.new.Reads as new
+use Rattle.aes.proofs.encrypt.Reads as encrypt
+use Rattle.aes.proofs.decrypt.Reads as decrypt
 use Rattle.modes.proofs.apply.Reads as apply
 use Rattle.cmac.proofs.check.Reads as check
 use Rattle.cmac.proofs.start.Reads as start
 use Rattle.cmac.proofs.fed_with.Reads as fed-with
 use Rattle.cmac.proofs.close.Reads as close
-use Rattle.writer.proofs.write.Reads as write
-use Rattle.reader.proofs.read_start.Reads as read-start
+use Rattle.image_writer.proofs.write.Reads as write
+use Rattle.image_reader.proofs.read_start.Reads as read-start
 use Rattle.image.proofs.read_turn.Reads as read-turn
-use Rattle.reader.proofs.read_complete.Reads as read-complete
+use Rattle.image_reader.proofs.read_complete.Reads as read-complete
 use Rattle.wrap.proofs.wrap.Reads as wrap
 use Rattle.wrap.proofs.unwrap.Reads as unwrap
-use Rattle.turn_answers.proofs.turn_answer.Reads as turn-answer
+use Rattle.dock_turn.proofs.turn_answer.Reads as turn-answer
 use Rattle.dock.proofs.dock_product.Reads as dock-product
 use Rattle.dock.proofs.dock_schedule.Reads as dock-schedule
 use Rattle.dock.proofs.dock_encrypt.Reads as dock-encrypt

@@ -7,12 +7,12 @@ use lib.ListN.{getD, replicate}
 use Rattle.octets.specs.Octets.{choose, xor, tabulate}
 use Rattle.octets.specs.Words.{word}
 use Rattle.field.specs.Field.{xTimes, xPower, productWithin, _•_}
-use Rattle.sbox.specs.Sbox.{square, powerWithin, inverse, bit, fromBits, affine, invAffine, sBox, invSBox}
-use Rattle.words.specs.Columns.{rotWord, diagonal}
-use Rattle.mixing.specs.Mixing.{row}
-use Rattle.expansion.specs.Expansion.{rCon, keyWord, temp, nextWord}
-use Rattle.fips197.specs.State.{aes, at, state, shiftRows, mixColumns, invMixColumns}
-use Rattle.sp800_38b.specs.Cmac.{shifted, doubled}
+use Rattle.aes_sbox.specs.Sbox.{square, powerWithin, inverse, bit, fromBits, affine, invAffine, sBox, invSBox}
+use Rattle.aes_words.specs.Columns.{rotWord, diagonal}
+use Rattle.aes_mix.specs.Mixing.{row}
+use Rattle.aes_expand.specs.Expansion.{rCon, keyWord, temp, nextWord}
+use Rattle.aes_spec.specs.State.{aes, at, state, shiftRows, mixColumns, invMixColumns}
+use Rattle.cmac_spec.specs.Cmac.{shifted, doubled}
 
 -- what a definition gives, and what the document has
 pub record Case : Type 0 where

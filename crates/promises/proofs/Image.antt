@@ -14,40 +14,40 @@ use lib.Seq.{take-at, drop-at, drop-drop, drop-append-add}
 use Rattle.octets.specs.Octets.{choose, Bytes, Octets, over, joined}
 use Rattle.octets.specs.Blocks.{BlockCipher, Lawful}
 use Rattle.octets.proofs.Blocks.{take-bytes, drop-bytes}
-use Rattle.schedule.specs.Schedule.{keyNumber}
-use Rattle.schedule.specs.declared.KeyAnswer.{KeyAnswer}
-use Rattle.schedule.specs.declared.KeyAnswer.the-variants.{Taken, KeyLength}
-use Rattle.fips197.specs.Cipher.{aesOf}
-use Rattle.fips197.proofs.Aes.{key-lawful}
-use Rattle.sp800_38a.specs.Pieces.{piece}
-use Rattle.sp800_38b.specs.Cmac.{cmac, SameOutside}
-use Rattle.layout.specs.Layout.{headOf}
-use Rattle.limits.specs.Marks.{isEdition, selected}
-use Rattle.reasons.specs.Reasons.{reasonNumber}
-use Rattle.progress.specs.Progress.{done, closed, markFor}
-use Rattle.layout.specs.declared.Head.{Head}
-use Rattle.progress.specs.declared.Progress.{Progress}
-use Rattle.reasons.specs.declared.Reason.{Reason}
-use Rattle.reasons.specs.declared.Reason.the-variants.{AfterLast, CheckWrong, Count, Number, OtherCount, OtherRelease, Length, Reserved, FillNotZero}
-use Rattle.reasons.specs.declared.Verdict.the-variants.{Accepted, Refused}
-use Rattle.layout.proofs.Laws.{Wide}
-use Rattle.format.specs.Edition.{Edition, one, noCheck, tailOf, edition}
-use Rattle.format.specs.Sealed.{filled, headFor, blockFor, sealed, opened, checks, fillZero}
-use Rattle.format.specs.Judge.{Keys, judge, either, ofEdition, ofBoth, fresh, advanced, taken, BlockReader}
-use Rattle.tally.specs.Tally.{stopNumber}
-use Rattle.turns.specs.Turn.{Reading, readBlocks, cut, handled}
-use Rattle.write_answers.specs.Answers.{writeNumber, lastFor}
-use Rattle.writer.specs.Calls.{writeOutput, writeAnswer, blockOf}
-use Rattle.reader.specs.Calls.{startOf, completionOf}
+use Rattle.aes_schedule.specs.Schedule.{keyNumber}
+use Rattle.aes_schedule.specs.declared.KeyAnswer.{KeyAnswer}
+use Rattle.aes_schedule.specs.declared.KeyAnswer.the-variants.{Taken, KeyLength}
+use Rattle.aes_spec.specs.Cipher.{aesOf}
+use Rattle.aes_spec.proofs.Aes.{key-lawful}
+use Rattle.modes_spec.specs.Pieces.{piece}
+use Rattle.cmac_spec.specs.Cmac.{cmac, SameOutside}
+use Rattle.image_layout.specs.Layout.{headOf}
+use Rattle.image_limits.specs.Marks.{isEdition, selected}
+use Rattle.image_reasons.specs.Reasons.{reasonNumber}
+use Rattle.image_progress.specs.Progress.{done, closed, markFor}
+use Rattle.image_layout.specs.declared.Head.{Head}
+use Rattle.image_progress.specs.declared.Progress.{Progress}
+use Rattle.image_reasons.specs.declared.Reason.{Reason}
+use Rattle.image_reasons.specs.declared.Reason.the-variants.{AfterLast, CheckWrong, Count, Number, OtherCount, OtherRelease, Length, Reserved, FillNotZero}
+use Rattle.image_reasons.specs.declared.Verdict.the-variants.{Accepted, Refused}
+use Rattle.image_layout.proofs.Laws.{Wide}
+use Rattle.image_spec.specs.Edition.{Edition, one, noCheck, tailOf, edition}
+use Rattle.image_spec.specs.Sealed.{filled, headFor, blockFor, sealed, opened, checks, fillZero}
+use Rattle.image_spec.specs.Judge.{Keys, judge, either, ofEdition, ofBoth, fresh, advanced, taken, BlockReader}
+use Rattle.image_reader_tally.specs.Tally.{stopNumber}
+use Rattle.image_reader_turn.specs.Turn.{Reading, readBlocks, cut, handled}
+use Rattle.image_writer_answer.specs.Answers.{writeNumber, lastFor}
+use Rattle.image_writer.specs.Calls.{writeOutput, writeAnswer, blockOf}
+use Rattle.image_reader.specs.Calls.{startOf, completionOf}
 use Rattle.image.specs.Calls.{keysOf, blocksBy, turnOf}
-use Rattle.write_answers.specs.declared.WriteAnswer.{WriteAnswer}
-use Rattle.write_answers.specs.declared.WriteAnswer.the-variants.{Written, WriteKey, WriteCount, WriteNumber, WriteLength, WriteEdition, WriteRoom}
-use Rattle.write_answers.specs.declared.Numbers.{Numbers}
-use Rattle.reader.specs.declared.Reader.{Reader}
-use Rattle.tally.specs.declared.Stop.{Stop}
-use Rattle.tally.specs.declared.Stop.the-variants.{End, Asked, Lent, Room, At}
-use Rattle.reader.specs.declared.Turn.{Turn}
-use Rattle.reader.specs.declared.Completion.the-variants.{Complete, NotComplete}
+use Rattle.image_writer_answer.specs.declared.WriteAnswer.{WriteAnswer}
+use Rattle.image_writer_answer.specs.declared.WriteAnswer.the-variants.{Written, WriteKey, WriteCount, WriteNumber, WriteLength, WriteEdition, WriteRoom}
+use Rattle.image_writer_answer.specs.declared.Numbers.{Numbers}
+use Rattle.image_reader.specs.declared.Reader.{Reader}
+use Rattle.image_reader_tally.specs.declared.Stop.{Stop}
+use Rattle.image_reader_tally.specs.declared.Stop.the-variants.{End, Asked, Lent, Room, At}
+use Rattle.image_reader.specs.declared.Turn.{Turn}
+use Rattle.image_reader.specs.declared.Completion.the-variants.{Complete, NotComplete}
 use Rattle.promises.proofs.ImageTerms.{Proper, SealedOn, Met, Row, Says, unchecked, AllMet, Blocks, payload, plains, parts, AllFilled, Fit, WriteSays, afterWrite, Wrote, blocks, image, inState, readerOf, Waits, moved, FromStart, Sound, readingOf, given, Fair, StartSays, StopSays, CompletionSays, Whole, Lending, AllFair, offered, concat, lendEach, AllFew, readerAfter, AllAccepted, handedOut, counted, andThen}
 use Rattle.promises.proofs.Keys.{KeyTaken}
 use Rattle.promises.proofs.Lemmas.ImageSealed.{sealed-size, sealed-bytes, sealed-checks, sealed-opened, sealed-head, sealed-fill}
@@ -55,7 +55,7 @@ use Rattle.promises.proofs.Lemmas.ImageJudge.{damaged-check, accepted-m
 use Rattle.promises.proofs.Lemmas.ImageTurn.{stops-at, out-at, ran-append, ran-state, advance, accepted-le, end-all, ends-or-at, stop-place, ran-met, met-ends, first-fixes, none-accepted, no-keys-none, ran-out, ran-bytes, met-filled, parts-length}
 use Rattle.promises.proofs.Lemmas.ImageSound.{sound-end}
 use Rattle.promises.proofs.Lemmas.ImageWhole.{written-length, Passes, Left, left-fits, checkBefore, written-at, image-blocks, image-parts, image-passes}
-use Rattle.format.proofs.Editions.{tail-bytes}
+use Rattle.image_spec.proofs.Editions.{tail-bytes}
 use Rattle.promises.proofs.Lemmas.ImageBoth.{reserved-wide, mark-fits, no-mark, mark-fixed, thirteen, first-edition, passes-both}
 use Rattle.promises.proofs.Lemmas.ImageCalls.{start-keys, output-rest, fresh-start, answer-says, told-turn, keysUnder, start-fresh, start-refused, start-zeros, usable-lawful, fit-written, output-block, cut-length, given-blocks, fair-turn, by-turn, reading-length, reading-le, one-accepted}
 use Rattle.promises.proofs.Lemmas.ImageRead.{blocks-split, size, head-is, opens, keys-are, accepts, refuses, never, other-build, turns-read, from-sound}

@@ -8,70 +8,70 @@ use denote.Ref.{now}
 use lib.Dec.{leb}
 use lib.ListN.{length, getD, take, drop, replicate}
 use Rattle.octets.specs.Octets.{Bytes, Octets, choose, over}
-use Rattle.schedule.specs.Schedule.{keyNumber}
-use Rattle.fips197.specs.Equivalent.{equivalentCipher}
-use Rattle.sp800_38b.specs.Cmac.{SameOutside}
-use Rattle.limits.specs.Marks.{selected}
-use Rattle.reasons.specs.Reasons.{verdictNumber}
-use Rattle.progress.specs.Progress.{closed}
-use Rattle.progress.specs.declared.Progress.{Progress}
-use Rattle.reasons.specs.declared.Reason.the-variants.{AfterLast, CheckWrong}
-use Rattle.reasons.specs.declared.Reason.{Reason}
-use Rattle.layout.specs.Layout.{headOf}
-use Rattle.format.specs.Edition.{Edition}
-use Rattle.format.specs.Sealed.{filled}
-use Rattle.format.specs.Judge.{Keys, either}
-use Rattle.format.specs.declared.Rounds.{Rounds}
-use Rattle.format.specs.Lent.{usable, lentMac, lentKeys, isBlock, openedOver, sealedOver}
-use Rattle.format.proofs.Sizes.{mac-sized}
-use Rattle.format.proofs.Judging.{checks-none, verdict-read, head-read}
-use Rattle.format.proofs.Opening.{fill-of-none}
-use Rattle.write_answers.specs.Answers.{writeNumber, lastFor}
-use Rattle.writer.specs.Calls.{writeOutput}
-use Rattle.reader.specs.Calls.{completionNumber}
+use Rattle.aes_schedule.specs.Schedule.{keyNumber}
+use Rattle.aes_spec.specs.Equivalent.{equivalentCipher}
+use Rattle.cmac_spec.specs.Cmac.{SameOutside}
+use Rattle.image_limits.specs.Marks.{selected}
+use Rattle.image_reasons.specs.Reasons.{verdictNumber}
+use Rattle.image_progress.specs.Progress.{closed}
+use Rattle.image_progress.specs.declared.Progress.{Progress}
+use Rattle.image_reasons.specs.declared.Reason.the-variants.{AfterLast, CheckWrong}
+use Rattle.image_reasons.specs.declared.Reason.{Reason}
+use Rattle.image_layout.specs.Layout.{headOf}
+use Rattle.image_spec.specs.Edition.{Edition}
+use Rattle.image_spec.specs.Sealed.{filled}
+use Rattle.image_spec.specs.Judge.{Keys, either}
+use Rattle.image_spec.specs.declared.Rounds.{Rounds}
+use Rattle.image_spec.specs.Lent.{usable, lentMac, lentKeys, isBlock, openedOver, sealedOver}
+use Rattle.image_spec.proofs.Sizes.{mac-sized}
+use Rattle.image_spec.proofs.Judging.{checks-none, verdict-read, head-read}
+use Rattle.image_spec.proofs.Opening.{fill-of-none}
+use Rattle.image_writer_answer.specs.Answers.{writeNumber, lastFor}
+use Rattle.image_writer.specs.Calls.{writeOutput}
+use Rattle.image_reader.specs.Calls.{completionNumber}
 use Rattle.image.specs.Calls.{keysOf, turnAfter, turnOf}
-use Rattle.tally.specs.Tally.{stopNumber}
-use Rattle.turns.specs.Turn.{handled}
-use Rattle.tally.specs.declared.BlocksRead.{BlocksRead}
-use Rattle.write_answers.specs.declared.WriteAnswer.{WriteAnswer}
-use Rattle.reader.specs.declared.Reader.{Reader}
-use Rattle.reader.specs.declared.ReadStarted.{ReadStarted}
-use Rattle.tally.specs.declared.Stop.the-variants.{End, At}
-use Rattle.reader.specs.declared.Turn.{Turn}
+use Rattle.image_reader_tally.specs.Tally.{stopNumber}
+use Rattle.image_reader_turn.specs.Turn.{handled}
+use Rattle.image_reader_tally.specs.declared.BlocksRead.{BlocksRead}
+use Rattle.image_writer_answer.specs.declared.WriteAnswer.{WriteAnswer}
+use Rattle.image_reader.specs.declared.Reader.{Reader}
+use Rattle.image_reader.specs.declared.ReadStarted.{ReadStarted}
+use Rattle.image_reader_tally.specs.declared.Stop.the-variants.{End, At}
+use Rattle.image_reader.specs.declared.Turn.{Turn}
 use Rattle.promises.proofs.Keys.{KeyTaken}
 use Rattle.promises.proofs.ImageTerms.{Row, Says, AllMet, Fit, WriteSays, StartSays, StopSays, CompletionSays, Fair, Wrote, SealedOn, Waits, moved, Whole, given, readerOf}
 use Rattle.promises.proofs.Image.{verdict-as-told, verdict-done, write-answer-as-told, fit-is-written, start-says, start-takes, refused-start-gives-zeros, turn-stop-as-told, turn-ends, completion-as-told, completed, written-is-read, damaged-ends-a-turn, other-build-ends-a-turn, write-refusal-keeps, turn-refusal-keeps}
 use Rattle.comparing.proofs.equal.Reads as equal
-use Rattle.layout.proofs.head_of.Reads as head-of
-use Rattle.layout.proofs.head_bytes.Reads as head-bytes
-use Rattle.progress.proofs.complete.Reads as complete
-use Rattle.progress.proofs.closed.Reads as is-closed
-use Rattle.limits.proofs.count_fits.Reads as count-fits
-use Rattle.limits.proofs.length_fits.Reads as length-fits
-use Rattle.limits.proofs.is_edition.Reads as is-edition
-use Rattle.limits.proofs.selected.Reads as is-selected
-use Rattle.limits.proofs.mark_of.Reads as mark-of
-use Rattle.limits.proofs.tail_size.Reads as tail-size
-use Rattle.progress.proofs.mark_for.Reads as mark-for
-use Rattle.header.proofs.judge_head.Reads as judge-head
-use Rattle.checking.proofs.check_of.Reads as check-of
-use Rattle.checking.proofs.check_holds.Reads as check-holds
-use Rattle.format.proofs.both_taken.Reads as both-taken
-use Rattle.fill.proofs.fill_is_zero.Reads as fill-is-zero
-use Rattle.judging.proofs.judge.Reads as judge
-use Rattle.opening.proofs.open_block.Reads as open-block
-use Rattle.seal.proofs.seal.Reads as seal
-use Rattle.tally.proofs.blocks_read.Reads as blocks-read
-use Rattle.tally.proofs.may_ask.Reads as may-ask
-use Rattle.tally.proofs.goes_on.Reads as goes-on
-use Rattle.tally.proofs.step.Reads as step
-use Rattle.reader.proofs.read_start.Reads as read-start
-use Rattle.reader.proofs.read_complete.Reads as read-complete
-use Rattle.writer.proofs.write.Reads as write
-use Rattle.write_answers.proofs.judge_write.Reads as judge-write
-use Rattle.write_answers.proofs.last_for.Reads as last-for
+use Rattle.image_layout.proofs.head_of.Reads as head-of
+use Rattle.image_layout.proofs.head_bytes.Reads as head-bytes
+use Rattle.image_progress.proofs.complete.Reads as complete
+use Rattle.image_progress.proofs.closed.Reads as is-closed
+use Rattle.image_limits.proofs.count_fits.Reads as count-fits
+use Rattle.image_limits.proofs.length_fits.Reads as length-fits
+use Rattle.image_limits.proofs.is_edition.Reads as is-edition
+use Rattle.image_limits.proofs.selected.Reads as is-selected
+use Rattle.image_limits.proofs.mark_of.Reads as mark-of
+use Rattle.image_limits.proofs.tail_size.Reads as tail-size
+use Rattle.image_progress.proofs.mark_for.Reads as mark-for
+use Rattle.image_rules.proofs.judge_head.Reads as judge-head
+use Rattle.image_block_check.proofs.check_of.Reads as check-of
+use Rattle.image_block_check.proofs.check_holds.Reads as check-holds
+use Rattle.image_spec.proofs.both_taken.Reads as both-taken
+use Rattle.image_block_fill.proofs.fill_is_zero.Reads as fill-is-zero
+use Rattle.image_block_judge.proofs.judge.Reads as judge
+use Rattle.image_block_open.proofs.open_block.Reads as open-block
+use Rattle.image_block_seal.proofs.seal.Reads as seal
+use Rattle.image_reader_tally.proofs.blocks_read.Reads as blocks-read
+use Rattle.image_reader_tally.proofs.may_ask.Reads as may-ask
+use Rattle.image_reader_tally.proofs.goes_on.Reads as goes-on
+use Rattle.image_reader_tally.proofs.step.Reads as step
+use Rattle.image_reader.proofs.read_start.Reads as read-start
+use Rattle.image_reader.proofs.read_complete.Reads as read-complete
+use Rattle.image_writer.proofs.write.Reads as write
+use Rattle.image_writer_answer.proofs.judge_write.Reads as judge-write
+use Rattle.image_writer_answer.proofs.last_for.Reads as last-for
 use Rattle.image.proofs.read_turn.Reads as read-turn
-use Rattle.turns.proofs.turn.Reads as turn
+use Rattle.image_reader_turn.proofs.turn.Reads as turn
 
 pub equal-asks-nothing : (κs : _) (a : _) → equal.Asked κs a
 equal-asks-nothing κs a = tt

@@ -6,35 +6,35 @@ use Prim.Native.Nat.{ℕ, zero, suc, _+_, _*_, _/_, _%_, _≤_, _<_, max}
 use lib.ListN.{length, getD, take, drop}
 use Rattle.octets.specs.Octets.{choose, Bytes, Octets, joined}
 use Rattle.octets.specs.Blocks.{BlockCipher}
-use Rattle.schedule.specs.declared.KeyAnswer.{KeyAnswer}
-use Rattle.schedule.specs.declared.KeyAnswer.the-variants.{Taken, KeyLength}
-use Rattle.layout.specs.Layout.{headOf}
-use Rattle.limits.specs.Fits.{lengthFits}
-use Rattle.limits.specs.Marks.{isEdition}
-use Rattle.progress.specs.Progress.{closed}
-use Rattle.layout.specs.declared.Head.{Head}
-use Rattle.progress.specs.declared.Progress.{Progress}
-use Rattle.reasons.specs.declared.Reason.{Reason}
-use Rattle.reasons.specs.declared.Reason.the-variants.{AfterLast, CheckWrong, Count, Number, OtherCount, OtherRelease, Length, Reserved, FillNotZero}
-use Rattle.reasons.specs.declared.Verdict.{Verdict}
-use Rattle.reasons.specs.declared.Verdict.the-variants.{Accepted, Refused}
-use Rattle.format.specs.Edition.{Edition, noCheck, tailOf}
-use Rattle.format.specs.Sealed.{filled, blockFor, opened, checks, fillZero}
-use Rattle.format.specs.Judge.{Keys, Rule, either, taken}
-use Rattle.turns.specs.Turn.{Reading, cut, handled, readingBy}
-use Rattle.write_answers.specs.Answers.{lastFor}
-use Rattle.writer.specs.Calls.{writeAnswer, writeOutput}
-use Rattle.reader.specs.Calls.{startOf}
+use Rattle.aes_schedule.specs.declared.KeyAnswer.{KeyAnswer}
+use Rattle.aes_schedule.specs.declared.KeyAnswer.the-variants.{Taken, KeyLength}
+use Rattle.image_layout.specs.Layout.{headOf}
+use Rattle.image_limits.specs.Fits.{lengthFits}
+use Rattle.image_limits.specs.Marks.{isEdition}
+use Rattle.image_progress.specs.Progress.{closed}
+use Rattle.image_layout.specs.declared.Head.{Head}
+use Rattle.image_progress.specs.declared.Progress.{Progress}
+use Rattle.image_reasons.specs.declared.Reason.{Reason}
+use Rattle.image_reasons.specs.declared.Reason.the-variants.{AfterLast, CheckWrong, Count, Number, OtherCount, OtherRelease, Length, Reserved, FillNotZero}
+use Rattle.image_reasons.specs.declared.Verdict.{Verdict}
+use Rattle.image_reasons.specs.declared.Verdict.the-variants.{Accepted, Refused}
+use Rattle.image_spec.specs.Edition.{Edition, noCheck, tailOf}
+use Rattle.image_spec.specs.Sealed.{filled, blockFor, opened, checks, fillZero}
+use Rattle.image_spec.specs.Judge.{Keys, Rule, either, taken}
+use Rattle.image_reader_turn.specs.Turn.{Reading, cut, handled, readingBy}
+use Rattle.image_writer_answer.specs.Answers.{lastFor}
+use Rattle.image_writer.specs.Calls.{writeAnswer, writeOutput}
+use Rattle.image_reader.specs.Calls.{startOf}
 use Rattle.image.specs.Calls.{keysOf, turnOf}
-use Rattle.write_answers.specs.declared.WriteAnswer.{WriteAnswer}
-use Rattle.write_answers.specs.declared.WriteAnswer.the-variants.{Written, WriteKey, WriteCount, WriteNumber, WriteLength, WriteEdition, WriteRoom}
-use Rattle.write_answers.specs.declared.Numbers.{Numbers}
-use Rattle.reader.specs.declared.Reader.{Reader}
-use Rattle.tally.specs.declared.Stop.{Stop}
-use Rattle.tally.specs.declared.Stop.the-variants.{End, Asked, Lent, Room, At}
-use Rattle.reader.specs.declared.Turn.{Turn}
-use Rattle.reader.specs.declared.Completion.{Completion}
-use Rattle.reader.specs.declared.Completion.the-variants.{Complete, NotComplete}
+use Rattle.image_writer_answer.specs.declared.WriteAnswer.{WriteAnswer}
+use Rattle.image_writer_answer.specs.declared.WriteAnswer.the-variants.{Written, WriteKey, WriteCount, WriteNumber, WriteLength, WriteEdition, WriteRoom}
+use Rattle.image_writer_answer.specs.declared.Numbers.{Numbers}
+use Rattle.image_reader.specs.declared.Reader.{Reader}
+use Rattle.image_reader_tally.specs.declared.Stop.{Stop}
+use Rattle.image_reader_tally.specs.declared.Stop.the-variants.{End, Asked, Lent, Room, At}
+use Rattle.image_reader.specs.declared.Turn.{Turn}
+use Rattle.image_reader.specs.declared.Completion.{Completion}
+use Rattle.image_reader.specs.declared.Completion.the-variants.{Complete, NotComplete}
 pub use Rattle.promises.proofs.Keys.{KeyTaken}
 
 -- ---- editions

@@ -10,19 +10,19 @@ use borrow.Author.Tests.{eqb-true}
 use lib.Dec.{eqb}
 use lib.ListN.{length}
 use Rattle.octets.specs.Octets.{choose}
-use Rattle.sbox.specs.Sbox.{sBox}
-use Rattle.schedule.specs.Schedule.{taken, refused, scheduleOf, keyNumber}
-use Rattle.schedule.specs.declared.Expanded.{Expanded}
-use Rattle.schedule.specs.declared.KeyAnswer.{KeyAnswer}
-use Rattle.schedule.specs.declared.KeyAnswer.the-variants.{Taken, KeyLength}
-use Rattle.cipher.specs.Calls.{encryptUnder, decryptUnder}
-use Rattle.cipher.specs.declared.Ciphered.{Ciphered}
+use Rattle.aes_sbox.specs.Sbox.{sBox}
+use Rattle.aes_schedule.specs.Schedule.{taken, refused, scheduleOf, keyNumber}
+use Rattle.aes_schedule.specs.declared.Expanded.{Expanded}
+use Rattle.aes_schedule.specs.declared.KeyAnswer.{KeyAnswer}
+use Rattle.aes_schedule.specs.declared.KeyAnswer.the-variants.{Taken, KeyLength}
+use Rattle.aes.specs.Calls.{encryptUnder, decryptUnder}
+use Rattle.aes.specs.declared.Ciphered.{Ciphered}
 use Rattle.cmac.specs.Calls.{checkOf, startOf}
 use Rattle.cmac.specs.declared.Checked.{Checked}
 use Rattle.cmac.specs.declared.Started.{Started}
-use Rattle.schedule.proofs.KeySchedule.new.Reads as new
-use Rattle.cipher.proofs.encrypt.Reads as encrypt
-use Rattle.cipher.proofs.decrypt.Reads as decrypt
+use Rattle.aes_schedule.proofs.KeySchedule.new.Reads as new
+use Rattle.aes.proofs.encrypt.Reads as encrypt
+use Rattle.aes.proofs.decrypt.Reads as decrypt
 use Rattle.cmac.proofs.check.Reads as check
 use Rattle.cmac.proofs.start.Reads as start
 

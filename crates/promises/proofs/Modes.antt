@@ -14,40 +14,40 @@ use lib.Seq.{take-at, drop-at}
 use Rattle.octets.specs.Octets.{choose, over, joined, Bytes, Octets}
 use Rattle.octets.specs.Blocks.{BlockCipher, Lawful}
 use Rattle.octets.proofs.Blocks.{append-bytes}
-use Rattle.sbox.specs.Sbox.{sBox}
-use Rattle.schedule.specs.Schedule.{scheduleOf, keyNumber, roundCount}
-use Rattle.fips197.specs.Cipher.{standard, aesOf}
-use Rattle.fips197.specs.Equivalent.{equivalentCipher, inverseWords, oneWay}
-use Rattle.fips197.proofs.Equivalent.{equivalent-agrees}
-use Rattle.fips197.proofs.Aes.{aes-lawful, key-lawful}
-use Rattle.sp800_38a.specs.Pieces.{outputOf}
-use Rattle.sp800_38a.specs.Modes.{other, inverts, ivLength, anyLength, chains, Unless, moded, handedOn, inParts, handedAlong, WholeParts}
-use Rattle.sp800_38a.specs.Equations.{Equation, Handed}
-use Rattle.sp800_38a.specs.declared.Operation.{Operation}
-use Rattle.sp800_38a.specs.declared.Operation.the-variants.{EcbEncrypt, EcbDecrypt, CbcEncrypt, CbcDecrypt, CfbEncrypt, CfbDecrypt, Ofb}
-use Rattle.sp800_38a.proofs.Undo.{ChainOf, moded-undone}
-use Rattle.sp800_38a.proofs.Sixteen.{by-sixteen, pieces-16, length-16, undone-16, handed-16, chain-block}
-use Rattle.sp800_38a.proofs.Equations.{equation, handed-on}
-use Rattle.sp800_38a.proofs.HandedOn as cuts
-use Rattle.sp800_38a.proofs.Pins.{all-but-ecb-chain, ecb-chains-nothing}
-use Rattle.pieces.specs.Runs.{reach, runOver}
-use Rattle.pieces.proofs.Agree.{iv-is-chain, through-forward, through-backward, through-mode}
-use Rattle.mode_answers.specs.Answers.{modeNumber, leftOver, judged}
-use Rattle.mode_answers.specs.declared.ModeAnswer.{ModeAnswer}
-use Rattle.mode_answers.specs.declared.ModeAnswer.the-variants.{Done, BadKey, BadIv, NotPieces, OutputShort}
-use Rattle.mode_answers.proofs.Answers.{left-none, none-left}
+use Rattle.aes_sbox.specs.Sbox.{sBox}
+use Rattle.aes_schedule.specs.Schedule.{scheduleOf, keyNumber, roundCount}
+use Rattle.aes_spec.specs.Cipher.{standard, aesOf}
+use Rattle.aes_spec.specs.Equivalent.{equivalentCipher, inverseWords, oneWay}
+use Rattle.aes_spec.proofs.Equivalent.{equivalent-agrees}
+use Rattle.aes_spec.proofs.Aes.{aes-lawful, key-lawful}
+use Rattle.modes_spec.specs.Pieces.{outputOf}
+use Rattle.modes_spec.specs.Modes.{other, inverts, ivLength, anyLength, chains, Unless, moded, handedOn, inParts, handedAlong, WholeParts}
+use Rattle.modes_spec.specs.Equations.{Equation, Handed}
+use Rattle.modes_spec.specs.declared.Operation.{Operation}
+use Rattle.modes_spec.specs.declared.Operation.the-variants.{EcbEncrypt, EcbDecrypt, CbcEncrypt, CbcDecrypt, CfbEncrypt, CfbDecrypt, Ofb}
+use Rattle.modes_spec.proofs.Undo.{ChainOf, moded-undone}
+use Rattle.modes_spec.proofs.Sixteen.{by-sixteen, pieces-16, length-16, undone-16, handed-16, chain-block}
+use Rattle.modes_spec.proofs.Equations.{equation, handed-on}
+use Rattle.modes_spec.proofs.HandedOn as cuts
+use Rattle.modes_spec.proofs.Pins.{all-but-ecb-chain, ecb-chains-nothing}
+use Rattle.modes_run.specs.Runs.{reach, runOver}
+use Rattle.modes_run.proofs.Agree.{iv-is-chain, through-forward, through-backward, through-mode}
+use Rattle.modes_answer.specs.Answers.{modeNumber, leftOver, judged}
+use Rattle.modes_answer.specs.declared.ModeAnswer.{ModeAnswer}
+use Rattle.modes_answer.specs.declared.ModeAnswer.the-variants.{Done, BadKey, BadIv, NotPieces, OutputShort}
+use Rattle.modes_answer.proofs.Answers.{left-none, none-left}
 use Rattle.modes.specs.Calls.{modeAnswer, modeOutput, modeNext}
 use Rattle.modes.specs.declared.Applied.{Applied}
 use Rattle.modes.proofs.Calls.{kept, zeros}
 use Rattle.modes.proofs.Pins.{hands-on}
 use Rattle.promises.proofs.Keys.{KeyTaken}
-use Rattle.mode_answers.proofs.judge.Reads as judge-mode
-use Rattle.mode_answers.proofs.any_length.Reads as any-length
+use Rattle.modes_answer.proofs.judge.Reads as judge-mode
+use Rattle.modes_answer.proofs.any_length.Reads as any-length
 use Rattle.modes.proofs.apply.Reads as apply
-use Rattle.steps.proofs.step.Reads as step
-use Rattle.whole_pieces.proofs.in_order.Reads as in-order
-use Rattle.whole_pieces.proofs.shorter.Reads as shorter
-use Rattle.pieces.proofs.run.Reads as run
+use Rattle.modes_step.proofs.step.Reads as step
+use Rattle.modes_whole.proofs.in_order.Reads as in-order
+use Rattle.modes_whole.proofs.shorter.Reads as shorter
+use Rattle.modes_run.proofs.run.Reads as run
 
 -- ---- the words of this page
 

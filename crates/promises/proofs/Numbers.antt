@@ -1,13 +1,13 @@
 -- Demand 1 for the numbers of the answers, and the value that a reason holds. Assumes nothing.
 use mathlib.Core.Path.{_≡_, sym, _∙_}
-use Rattle.schedule.proofs.KeyAnswer.number.Reads as key-number
-use Rattle.mode_answers.proofs.ModeAnswer.number.Reads as mode-number
-use Rattle.wrap_answers.proofs.WrapAnswer.number.Reads as wrap-number
-use Rattle.write_answers.proofs.WriteAnswer.number.Reads as write-number
-use Rattle.tally.proofs.Stop.number.Reads as stop-number
-use Rattle.reader.proofs.Completion.number.Reads as completion-number
-use Rattle.reasons.proofs.Reason.number.Reads as reason-number
-use Rattle.reasons.proofs.Reason.value.Reads as reason-value
+use Rattle.aes_schedule.proofs.KeyAnswer.number.Reads as key-number
+use Rattle.modes_answer.proofs.ModeAnswer.number.Reads as mode-number
+use Rattle.wrap_answer.proofs.WrapAnswer.number.Reads as wrap-number
+use Rattle.image_writer_answer.proofs.WriteAnswer.number.Reads as write-number
+use Rattle.image_reader_tally.proofs.Stop.number.Reads as stop-number
+use Rattle.image_reader.proofs.Completion.number.Reads as completion-number
+use Rattle.image_reasons.proofs.Reason.number.Reads as reason-number
+use Rattle.image_reasons.proofs.Reason.value.Reads as reason-value
 
 pub key-number-asks-nothing : (κs : _) (a : _) → key-number.Asked κs a
 key-number-asks-nothing κs a = tt

@@ -9,25 +9,25 @@ use borrow.Author.Tests.{eqb-true, eqb-false, not-false, le-leb, lt-leb, lt-ltb}
 use lib.Dec.{eqb, ltb, leb}
 use lib.ListN.{drop}
 use Rattle.octets.specs.Octets.{choose}
-use Rattle.layout.specs.Layout.{checkAt, headOf}
-use Rattle.limits.specs.Fits.{countFits, lengthFits}
-use Rattle.limits.specs.Marks.{selected}
-use Rattle.reasons.specs.Reasons.{firstOf, reasonNumber, reasonValue}
-use Rattle.progress.specs.Progress.{done, closed}
-use Rattle.header.specs.Rules.{headTests}
-use Rattle.layout.specs.declared.Head.{Head}
-use Rattle.progress.specs.declared.Progress.{Progress}
-use Rattle.reasons.specs.declared.Reason.{Reason}
-use Rattle.reasons.specs.declared.Reason.the-variants.{AfterLast, CheckWrong, Count, Number, OtherCount, OtherRelease, Length, Reserved, FillNotZero}
-use Rattle.reasons.specs.declared.Verdict.{Verdict}
-use Rattle.reasons.specs.declared.Verdict.the-variants.{Accepted, Refused}
-use Rattle.header.proofs.Laws.{number-below}
-use Rattle.format.specs.Edition.{Edition, noCheck}
-use Rattle.format.specs.Sealed.{checks, fillZero}
-use Rattle.format.specs.Judge.{Keys, tests, judge, taken, ofEdition}
-use Rattle.turns.specs.Turn.{Reading, readBlocks, later, onward}
-use Rattle.tally.specs.declared.Stop.{Stop}
-use Rattle.tally.specs.declared.Stop.the-variants.{End, Asked, Lent, Room, At}
+use Rattle.image_layout.specs.Layout.{checkAt, headOf}
+use Rattle.image_limits.specs.Fits.{countFits, lengthFits}
+use Rattle.image_limits.specs.Marks.{selected}
+use Rattle.image_reasons.specs.Reasons.{firstOf, reasonNumber, reasonValue}
+use Rattle.image_progress.specs.Progress.{done, closed}
+use Rattle.image_rules.specs.Rules.{headTests}
+use Rattle.image_layout.specs.declared.Head.{Head}
+use Rattle.image_progress.specs.declared.Progress.{Progress}
+use Rattle.image_reasons.specs.declared.Reason.{Reason}
+use Rattle.image_reasons.specs.declared.Reason.the-variants.{AfterLast, CheckWrong, Count, Number, OtherCount, OtherRelease, Length, Reserved, FillNotZero}
+use Rattle.image_reasons.specs.declared.Verdict.{Verdict}
+use Rattle.image_reasons.specs.declared.Verdict.the-variants.{Accepted, Refused}
+use Rattle.image_rules.proofs.Laws.{number-below}
+use Rattle.image_spec.specs.Edition.{Edition, noCheck}
+use Rattle.image_spec.specs.Sealed.{checks, fillZero}
+use Rattle.image_spec.specs.Judge.{Keys, tests, judge, taken, ofEdition}
+use Rattle.image_reader_turn.specs.Turn.{Reading, readBlocks, later, onward}
+use Rattle.image_reader_tally.specs.declared.Stop.{Stop}
+use Rattle.image_reader_tally.specs.declared.Stop.the-variants.{End, Asked, Lent, Room, At}
 use Rattle.promises.proofs.Lemmas.ImageJudge.{accepted-met, right-below}
 
 -- ---- answers as numbers and values

@@ -14,30 +14,30 @@ use lib.Dec.{eqb}
 use Rattle.octets.specs.Octets.{choose, Bytes, Octets, over, joined}
 use Rattle.octets.specs.Blocks.{BlockCipher, Lawful}
 use Rattle.octets.proofs.Blocks.{append-bytes, take-bytes, drop-bytes}
-use Rattle.fips197.specs.Cipher.{aesOf}
-use Rattle.fips197.proofs.Aes.{key-lawful}
-use Rattle.sp800_38a.specs.Pieces.{piece}
-use Rattle.sp800_38b.specs.Cmac.{cmac}
-use Rattle.limits.specs.Marks.{isEdition}
-use Rattle.progress.specs.Progress.{done}
-use Rattle.progress.specs.declared.Progress.{Progress}
-use Rattle.format.specs.Edition.{Edition, noCheck, edition}
-use Rattle.format.specs.Sealed.{blockFor}
-use Rattle.format.specs.Judge.{Keys, fresh, BlockReader, always, either, ofEdition, ofBoth}
-use Rattle.tally.specs.Tally.{stopNumber}
-use Rattle.turns.specs.Turn.{readBlocks, handled}
-use Rattle.tally.specs.declared.Stop.the-variants.{End}
-use Rattle.write_answers.specs.Answers.{writeNumber, lastFor}
-use Rattle.writer.specs.Calls.{writeAnswer, writeOutput, blockOf}
-use Rattle.reader.specs.Calls.{startOf, completionOf}
+use Rattle.aes_spec.specs.Cipher.{aesOf}
+use Rattle.aes_spec.proofs.Aes.{key-lawful}
+use Rattle.modes_spec.specs.Pieces.{piece}
+use Rattle.cmac_spec.specs.Cmac.{cmac}
+use Rattle.image_limits.specs.Marks.{isEdition}
+use Rattle.image_progress.specs.Progress.{done}
+use Rattle.image_progress.specs.declared.Progress.{Progress}
+use Rattle.image_spec.specs.Edition.{Edition, noCheck, edition}
+use Rattle.image_spec.specs.Sealed.{blockFor}
+use Rattle.image_spec.specs.Judge.{Keys, fresh, BlockReader, always, either, ofEdition, ofBoth}
+use Rattle.image_reader_tally.specs.Tally.{stopNumber}
+use Rattle.image_reader_turn.specs.Turn.{readBlocks, handled}
+use Rattle.image_reader_tally.specs.declared.Stop.the-variants.{End}
+use Rattle.image_writer_answer.specs.Answers.{writeNumber, lastFor}
+use Rattle.image_writer.specs.Calls.{writeAnswer, writeOutput, blockOf}
+use Rattle.image_reader.specs.Calls.{startOf, completionOf}
 use Rattle.image.specs.Calls.{keysOf}
-use Rattle.write_answers.specs.declared.WriteAnswer.{WriteAnswer}
-use Rattle.write_answers.specs.declared.WriteAnswer.the-variants.{Written, WriteKey, WriteCount, WriteNumber, WriteLength, WriteEdition, WriteRoom}
-use Rattle.reader.specs.declared.Turn.{Turn}
+use Rattle.image_writer_answer.specs.declared.WriteAnswer.{WriteAnswer}
+use Rattle.image_writer_answer.specs.declared.WriteAnswer.the-variants.{Written, WriteKey, WriteCount, WriteNumber, WriteLength, WriteEdition, WriteRoom}
+use Rattle.image_reader.specs.declared.Turn.{Turn}
 use Rattle.image.proofs.read_turn.Reads as read-turn
-use Rattle.writer.proofs.write.Reads as write
-use Rattle.reader.specs.declared.Reader.{Reader}
-use Rattle.reader.specs.declared.Completion.the-variants.{Complete, NotComplete}
+use Rattle.image_writer.proofs.write.Reads as write
+use Rattle.image_reader.specs.declared.Reader.{Reader}
+use Rattle.image_reader.specs.declared.Completion.the-variants.{Complete, NotComplete}
 use Rattle.promises.proofs.ImageTerms.{Proper, Blocks, plains, parts, lengths, partsIn, AllFilled, afterWrite, Wrote, blocks, written, image, given, Lending, turnBy, AllFair, offered, concat, lendEach, AllFew, readerAfter, AllAccepted, handedOut, counted}
 use Rattle.promises.proofs.Keys.{KeyTaken}
 use Rattle.promises.proofs.Lemmas.ImageWhole.{Passes, passes-front, no-check-octets, image-blocks, image-parts, image-passes}

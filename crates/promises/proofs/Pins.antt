@@ -10,65 +10,65 @@ use borrow.Author.Tests.{eqb-true, eqb-false}
 use denote.Ref.{now}
 use lib.Dec.{eqb}
 use lib.ListN.{length}
-use Rattle.schedule.specs.Schedule.{keyNumber}
-use Rattle.schedule.specs.declared.KeyAnswer.{KeyAnswer}
-use Rattle.schedule.specs.declared.KeyAnswer.the-variants.{Taken, KeyLength}
-use Rattle.schedule.proofs.Pins.{key-numbers}
-use Rattle.sp800_38a.specs.Modes.{ivLength, anyLength, chains}
-use Rattle.sp800_38a.specs.declared.Operation.{Operation}
-use Rattle.sp800_38a.specs.declared.Operation.the-variants.{EcbEncrypt, EcbDecrypt, CbcEncrypt, CbcDecrypt, CfbEncrypt, CfbDecrypt, Ofb}
-use Rattle.sp800_38a.proofs.Pins as modes
-use Rattle.mode_answers.specs.Answers.{modeNumber}
-use Rattle.mode_answers.specs.declared.ModeAnswer.{ModeAnswer}
-use Rattle.mode_answers.specs.declared.ModeAnswer.the-variants.{Done, BadKey, BadIv, NotPieces, OutputShort}
-use Rattle.mode_answers.proofs.Pins.{mode-numbers}
-use Rattle.limits.specs.Marks.{selected, markOf, tailSize}
-use Rattle.limits.proofs.Pins as editions
-use Rattle.reasons.specs.Reasons.{reasonNumber, reasonValue, verdictNumber}
-use Rattle.reasons.specs.declared.Reason.{Reason}
-use Rattle.reasons.specs.declared.Reason.the-variants.{AfterLast, CheckWrong, Count, Number, OtherCount, OtherRelease, Length, Reserved, FillNotZero}
-use Rattle.reasons.specs.declared.Verdict.{Verdict}
-use Rattle.reasons.specs.declared.Verdict.the-variants.{Accepted, Refused}
-use Rattle.reasons.proofs.Pins as reasons
-use Rattle.tally.specs.Tally.{stopNumber}
-use Rattle.tally.specs.declared.Stop.{Stop}
-use Rattle.tally.specs.declared.Stop.the-variants.{End, Asked, Lent, Room, At}
-use Rattle.tally.proofs.Pins.{stop-numbers}
-use Rattle.turns.specs.Turn.{handled}
-use Rattle.turns.proofs.Pins as turns
-use Rattle.reader.specs.Calls.{completionNumber}
-use Rattle.reader.specs.declared.Completion.{Completion}
-use Rattle.reader.specs.declared.Completion.the-variants.{Complete, NotComplete}
-use Rattle.reader.specs.declared.Reader.{Reader}
-use Rattle.reader.specs.declared.Turn.{Turn}
-use Rattle.reader.proofs.Pins.{completion-numbers}
-use Rattle.write_answers.specs.Answers.{writeNumber}
-use Rattle.write_answers.specs.declared.WriteAnswer.{WriteAnswer}
-use Rattle.write_answers.specs.declared.WriteAnswer.the-variants.{Written, WriteKey, WriteCount, WriteNumber, WriteLength, WriteEdition, WriteRoom}
-use Rattle.write_answers.proofs.Pins.{write-numbers}
-use Rattle.wrap_answers.specs.Answers.{wrapNumber}
-use Rattle.wrap_answers.specs.declared.WrapAnswer.{WrapAnswer}
-use Rattle.wrap_answers.specs.declared.WrapAnswer.the-variants.{WrapDone, WrapKey, WrapSize, WrapRoom, WrongInitial}
-use Rattle.wrap_answers.proofs.Pins.{wrap-numbers}
+use Rattle.aes_schedule.specs.Schedule.{keyNumber}
+use Rattle.aes_schedule.specs.declared.KeyAnswer.{KeyAnswer}
+use Rattle.aes_schedule.specs.declared.KeyAnswer.the-variants.{Taken, KeyLength}
+use Rattle.aes_schedule.proofs.Pins.{key-numbers}
+use Rattle.modes_spec.specs.Modes.{ivLength, anyLength, chains}
+use Rattle.modes_spec.specs.declared.Operation.{Operation}
+use Rattle.modes_spec.specs.declared.Operation.the-variants.{EcbEncrypt, EcbDecrypt, CbcEncrypt, CbcDecrypt, CfbEncrypt, CfbDecrypt, Ofb}
+use Rattle.modes_spec.proofs.Pins as modes
+use Rattle.modes_answer.specs.Answers.{modeNumber}
+use Rattle.modes_answer.specs.declared.ModeAnswer.{ModeAnswer}
+use Rattle.modes_answer.specs.declared.ModeAnswer.the-variants.{Done, BadKey, BadIv, NotPieces, OutputShort}
+use Rattle.modes_answer.proofs.Pins.{mode-numbers}
+use Rattle.image_limits.specs.Marks.{selected, markOf, tailSize}
+use Rattle.image_limits.proofs.Pins as editions
+use Rattle.image_reasons.specs.Reasons.{reasonNumber, reasonValue, verdictNumber}
+use Rattle.image_reasons.specs.declared.Reason.{Reason}
+use Rattle.image_reasons.specs.declared.Reason.the-variants.{AfterLast, CheckWrong, Count, Number, OtherCount, OtherRelease, Length, Reserved, FillNotZero}
+use Rattle.image_reasons.specs.declared.Verdict.{Verdict}
+use Rattle.image_reasons.specs.declared.Verdict.the-variants.{Accepted, Refused}
+use Rattle.image_reasons.proofs.Pins as reasons
+use Rattle.image_reader_tally.specs.Tally.{stopNumber}
+use Rattle.image_reader_tally.specs.declared.Stop.{Stop}
+use Rattle.image_reader_tally.specs.declared.Stop.the-variants.{End, Asked, Lent, Room, At}
+use Rattle.image_reader_tally.proofs.Pins.{stop-numbers}
+use Rattle.image_reader_turn.specs.Turn.{handled}
+use Rattle.image_reader_turn.proofs.Pins as turns
+use Rattle.image_reader.specs.Calls.{completionNumber}
+use Rattle.image_reader.specs.declared.Completion.{Completion}
+use Rattle.image_reader.specs.declared.Completion.the-variants.{Complete, NotComplete}
+use Rattle.image_reader.specs.declared.Reader.{Reader}
+use Rattle.image_reader.specs.declared.Turn.{Turn}
+use Rattle.image_reader.proofs.Pins.{completion-numbers}
+use Rattle.image_writer_answer.specs.Answers.{writeNumber}
+use Rattle.image_writer_answer.specs.declared.WriteAnswer.{WriteAnswer}
+use Rattle.image_writer_answer.specs.declared.WriteAnswer.the-variants.{Written, WriteKey, WriteCount, WriteNumber, WriteLength, WriteEdition, WriteRoom}
+use Rattle.image_writer_answer.proofs.Pins.{write-numbers}
+use Rattle.wrap_answer.specs.Answers.{wrapNumber}
+use Rattle.wrap_answer.specs.declared.WrapAnswer.{WrapAnswer}
+use Rattle.wrap_answer.specs.declared.WrapAnswer.the-variants.{WrapDone, WrapKey, WrapSize, WrapRoom, WrongInitial}
+use Rattle.wrap_answer.proofs.Pins.{wrap-numbers}
 use Rattle.image.specs.Calls.{turnOf}
-use Rattle.turn_answers.specs.Answers.{toldOf}
+use Rattle.dock_turn.specs.Answers.{toldOf}
 use Rattle.promises.proofs.Modes.{not-pieces-not-ofb}
 use Rattle.promises.proofs.WrapDemands.{wrap-as-told}
 use Rattle.promises.proofs.ImageDemands.{turn-is-the-readers}
 use Rattle.promises.proofs.Exports.{dock-schedule-is-new, dock-encrypt-is-encrypt, dock-decrypt-is-decrypt, dock-check-is-check, dock-check-start-is-start, dock-read-start-is-read-start, dock-ecb-encrypt-is-apply, dock-ecb-decrypt-is-apply, dock-cbc-encrypt-is-apply, dock-cbc-decrypt-is-apply, dock-cfb-encrypt-is-apply, dock-cfb-decrypt-is-apply, dock-ofb-is-apply, dock-write-is-write, dock-read-turn-is-read-turn, dock-read-complete-is-read-complete, dock-wrap-is-wrap, dock-unwrap-is-unwrap}
 use Rattle.promises.proofs.Lemmas.ImageCalls.{by-turn, reading-le}
-use Rattle.schedule.proofs.KeySchedule.new.Reads as new
-use Rattle.cipher.proofs.encrypt.Reads as encrypt
-use Rattle.cipher.proofs.decrypt.Reads as decrypt
+use Rattle.aes_schedule.proofs.KeySchedule.new.Reads as new
+use Rattle.aes.proofs.encrypt.Reads as encrypt
+use Rattle.aes.proofs.decrypt.Reads as decrypt
 use Rattle.cmac.proofs.check.Reads as check
 use Rattle.cmac.proofs.start.Reads as start
-use Rattle.reader.proofs.read_start.Reads as read-start
+use Rattle.image_reader.proofs.read_start.Reads as read-start
 use Rattle.modes.proofs.apply.Reads as apply
-use Rattle.writer.proofs.write.Reads as write
+use Rattle.image_writer.proofs.write.Reads as write
 use Rattle.image.proofs.read_turn.Reads as read-turn
-use Rattle.turns.proofs.turn.Reads as turn
-use Rattle.judging.proofs.judge.Reads as judge
-use Rattle.reader.proofs.read_complete.Reads as read-complete
+use Rattle.image_reader_turn.proofs.turn.Reads as turn
+use Rattle.image_block_judge.proofs.judge.Reads as judge
+use Rattle.image_reader.proofs.read_complete.Reads as read-complete
 use Rattle.wrap.proofs.wrap.Reads as wrap
 use Rattle.wrap.proofs.unwrap.Reads as unwrap
 use Rattle.dock.proofs.dock_schedule.Reads as dock-schedule

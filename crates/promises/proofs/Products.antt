@@ -5,8 +5,8 @@ use Rattle.field.specs.Field.{_•_}
 use Rattle.field.specs.Logarithms.{E, L, lookedUp}
 use Rattle.field.proofs.Logarithms.{E-rule, E-of-L, L-rule, L-of-E, L-0, L-1, product-looked-up}
 use Rattle.field.proofs.product.Reads as product
-use Rattle.logarithms.proofs.logarithm.Reads as logarithm
-use Rattle.powers.proofs.power.Reads as power
+use Rattle.field_log.proofs.logarithm.Reads as logarithm
+use Rattle.field_exp.proofs.power.Reads as power
 
 -- ---- the tables: E is the powers of 03, and L undoes it
 

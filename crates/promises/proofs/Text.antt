@@ -8,18 +8,18 @@ use native.Mathlib.Omega.{arith}
 use denote.Ref.{now}
 use lib.ListN.{length}
 use lib.Seq.{paste, paste-zero}
-use Rattle.places.specs.Hex.{hexWord}
-use Rattle.places.specs.Places.{fits, placed}
-use Rattle.hex.specs.Hex.{isBytes, unhex, bytesOf, decodeAnswer}
-use Rattle.hex.specs.declared.Decoded.the-variants.{End, Bad}
-use Rattle.lines.proofs.part.Reads as part
-use Rattle.lines.proofs.find.Reads as find
-use Rattle.lines.proofs.count.Reads as count
-use Rattle.lines.proofs.word.Reads as word
-use Rattle.hex.proofs.decode.Reads as decode
-use Rattle.numbers.proofs.decimal.Reads as decimal
-use Rattle.places.proofs.put.Reads as put
-use Rattle.places.proofs.put_hex.Reads as put-hex
+use Rattle.text_put.specs.Hex.{hexWord}
+use Rattle.text_put.specs.Places.{fits, placed}
+use Rattle.text_hex.specs.Hex.{isBytes, unhex, bytesOf, decodeAnswer}
+use Rattle.text_hex.specs.declared.Decoded.the-variants.{End, Bad}
+use Rattle.text_words.proofs.part.Reads as part
+use Rattle.text_words.proofs.find.Reads as find
+use Rattle.text_words.proofs.count.Reads as count
+use Rattle.text_words.proofs.word.Reads as word
+use Rattle.text_hex.proofs.decode.Reads as decode
+use Rattle.text_decimal.proofs.decimal.Reads as decimal
+use Rattle.text_put.proofs.put.Reads as put
+use Rattle.text_put.proofs.put_hex.Reads as put-hex
 
 pub part-asks-nothing : (κs : _) (a : _) → part.Asked κs a
 part-asks-nothing κs a = tt

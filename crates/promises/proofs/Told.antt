@@ -12,40 +12,40 @@ use lib.Dec.{ltb, leb}
 use lib.ListN.{length, getD, take, drop}
 use Rattle.octets.specs.Octets.{Bytes, over}
 use Rattle.octets.specs.Blocks.{BlockCipher}
-use Rattle.schedule.specs.Schedule.{keyNumber}
-use Rattle.schedule.specs.declared.KeyAnswer.{KeyAnswer}
-use Rattle.schedule.specs.declared.KeyAnswer.the-variants.{Taken, KeyLength}
-use Rattle.sp800_38a.specs.Modes.{ivLength}
-use Rattle.sp800_38a.specs.declared.Operation.{Operation}
-use Rattle.mode_answers.specs.Answers.{modeNumber, leftOver, judged}
-use Rattle.mode_answers.specs.declared.ModeAnswer.{ModeAnswer}
-use Rattle.mode_answers.specs.declared.ModeAnswer.the-variants.{Done, BadKey, BadIv, NotPieces, OutputShort}
-use Rattle.mode_answers.proofs.Answers.{none-left}
-use Rattle.wrap_answers.specs.Answers.{wrapNumber, sizeFits, wrappedSizeFits, wrapRuled}
-use Rattle.wrap_answers.specs.declared.WrapAnswer.{WrapAnswer}
-use Rattle.wrap_answers.specs.declared.WrapAnswer.the-variants.{WrapDone, WrapKey, WrapSize, WrapRoom, WrongInitial}
-use Rattle.limits.specs.Fits.{lengthFits}
-use Rattle.limits.specs.Marks.{isEdition}
-use Rattle.write_answers.specs.Answers.{writeNumber, writeRuled}
-use Rattle.write_answers.specs.declared.WriteAnswer.{WriteAnswer}
-use Rattle.write_answers.specs.declared.WriteAnswer.the-variants.{Written, WriteKey, WriteCount, WriteNumber, WriteLength, WriteEdition, WriteRoom}
-use Rattle.write_answers.specs.declared.Numbers.{Numbers}
-use Rattle.writer.specs.Calls.{writeOutput}
-use Rattle.reasons.specs.Reasons.{verdictNumber}
-use Rattle.reasons.specs.declared.Reason.{Reason}
-use Rattle.reasons.specs.declared.Verdict.{Verdict}
-use Rattle.reasons.specs.declared.Verdict.the-variants.{Accepted, Refused}
-use Rattle.format.specs.Sealed.{opened}
-use Rattle.places.specs.Places.{fits}
-use Rattle.hex.specs.Hex.{isBytes, bytesOf, decodeAnswer}
-use Rattle.hex.specs.declared.Decoded.{Decoded}
-use Rattle.hex.specs.declared.Decoded.the-variants.{End, Bad}
-use Rattle.numbers.specs.Numbers.{allDecimal, valueFrom, numberOf}
-use Rattle.numbers.specs.declared.Number.{Number}
-use Rattle.numbers.specs.declared.Number.the-variants.{Is, Not}
-use Rattle.turns.specs.Turn.{keysUnder}
-use Rattle.reader.specs.declared.Reader.{Reader}
-use Rattle.reader.specs.declared.Turn.{Turn}
+use Rattle.aes_schedule.specs.Schedule.{keyNumber}
+use Rattle.aes_schedule.specs.declared.KeyAnswer.{KeyAnswer}
+use Rattle.aes_schedule.specs.declared.KeyAnswer.the-variants.{Taken, KeyLength}
+use Rattle.modes_spec.specs.Modes.{ivLength}
+use Rattle.modes_spec.specs.declared.Operation.{Operation}
+use Rattle.modes_answer.specs.Answers.{modeNumber, leftOver, judged}
+use Rattle.modes_answer.specs.declared.ModeAnswer.{ModeAnswer}
+use Rattle.modes_answer.specs.declared.ModeAnswer.the-variants.{Done, BadKey, BadIv, NotPieces, OutputShort}
+use Rattle.modes_answer.proofs.Answers.{none-left}
+use Rattle.wrap_answer.specs.Answers.{wrapNumber, sizeFits, wrappedSizeFits, wrapRuled}
+use Rattle.wrap_answer.specs.declared.WrapAnswer.{WrapAnswer}
+use Rattle.wrap_answer.specs.declared.WrapAnswer.the-variants.{WrapDone, WrapKey, WrapSize, WrapRoom, WrongInitial}
+use Rattle.image_limits.specs.Fits.{lengthFits}
+use Rattle.image_limits.specs.Marks.{isEdition}
+use Rattle.image_writer_answer.specs.Answers.{writeNumber, writeRuled}
+use Rattle.image_writer_answer.specs.declared.WriteAnswer.{WriteAnswer}
+use Rattle.image_writer_answer.specs.declared.WriteAnswer.the-variants.{Written, WriteKey, WriteCount, WriteNumber, WriteLength, WriteEdition, WriteRoom}
+use Rattle.image_writer_answer.specs.declared.Numbers.{Numbers}
+use Rattle.image_writer.specs.Calls.{writeOutput}
+use Rattle.image_reasons.specs.Reasons.{verdictNumber}
+use Rattle.image_reasons.specs.declared.Reason.{Reason}
+use Rattle.image_reasons.specs.declared.Verdict.{Verdict}
+use Rattle.image_reasons.specs.declared.Verdict.the-variants.{Accepted, Refused}
+use Rattle.image_spec.specs.Sealed.{opened}
+use Rattle.text_put.specs.Places.{fits}
+use Rattle.text_hex.specs.Hex.{isBytes, bytesOf, decodeAnswer}
+use Rattle.text_hex.specs.declared.Decoded.{Decoded}
+use Rattle.text_hex.specs.declared.Decoded.the-variants.{End, Bad}
+use Rattle.text_decimal.specs.Numbers.{allDecimal, valueFrom, numberOf}
+use Rattle.text_decimal.specs.declared.Number.{Number}
+use Rattle.text_decimal.specs.declared.Number.the-variants.{Is, Not}
+use Rattle.image_reader_turn.specs.Turn.{keysUnder}
+use Rattle.image_reader.specs.declared.Reader.{Reader}
+use Rattle.image_reader.specs.declared.Turn.{Turn}
 use Rattle.image.specs.Calls.{keysOf, turnOf}
 use Rattle.promises.proofs.Modes.{Takes, judged-says}
 use Rattle.promises.proofs.ImageTerms.{HeadRow, HeadSays, given, plains, parts, AllFilled}
@@ -54,16 +54,16 @@ use Rattle.promises.proofs.ImageDemands.{turn-is-the-readers}
 use Rattle.promises.proofs.Lemmas.ImageJudge.{fits-count, head-says}
 use Rattle.promises.proofs.Lemmas.ImageCalls.{write-ruled}
 use Rattle.promises.proofs.Lemmas.WrapLaws.{ruled-says, ruled-through}
-use Rattle.mode_answers.proofs.judge.Reads as judge-mode
-use Rattle.wrap_answers.proofs.judge_wrap.Reads as judge-wrap
-use Rattle.wrap_answers.proofs.judge_unwrap.Reads as judge-unwrap
-use Rattle.write_answers.proofs.judge_write.Reads as judge-write
-use Rattle.header.proofs.judge_head.Reads as judge-head
-use Rattle.hex.proofs.decode.Reads as decode
-use Rattle.numbers.proofs.decimal.Reads as decimal
-use Rattle.writer.proofs.write.Reads as write
+use Rattle.modes_answer.proofs.judge.Reads as judge-mode
+use Rattle.wrap_answer.proofs.judge_wrap.Reads as judge-wrap
+use Rattle.wrap_answer.proofs.judge_unwrap.Reads as judge-unwrap
+use Rattle.image_writer_answer.proofs.judge_write.Reads as judge-write
+use Rattle.image_rules.proofs.judge_head.Reads as judge-head
+use Rattle.text_hex.proofs.decode.Reads as decode
+use Rattle.text_decimal.proofs.decimal.Reads as decimal
+use Rattle.image_writer.proofs.write.Reads as write
 use Rattle.image.proofs.read_turn.Reads as read-turn
-use Rattle.turns.proofs.turn.Reads as turn
+use Rattle.image_reader_turn.proofs.turn.Reads as turn
 
 taken-key : (key : KeyAnswer) → keyNumber key ≡ 0 → key ≡ Taken
 taken-key Taken e = refl

@@ -8,16 +8,16 @@ use lib.ListN.{length, take, drop}
 use lib.Seq.{take-at, drop-at}
 use Rattle.octets.specs.Octets.{Bytes, Octets}
 use Rattle.octets.specs.Blocks.{BlockCipher, Lawful}
-use Rattle.fips197.specs.Cipher.{aesOf}
-use Rattle.fips197.proofs.Aes.{key-lawful}
-use Rattle.rfc3394.specs.Wrap.{initial, register, step, pass, passes, wrapped, unstep, unpass, unpasses, unwrapped}
-use Rattle.wrap_answers.specs.Answers.{wrappedSizeFits, wrapNumber, sizeFits}
+use Rattle.aes_spec.specs.Cipher.{aesOf}
+use Rattle.aes_spec.proofs.Aes.{key-lawful}
+use Rattle.wrap_spec.specs.Wrap.{initial, register, step, pass, passes, wrapped, unstep, unpass, unpasses, unwrapped}
+use Rattle.wrap_answer.specs.Answers.{wrappedSizeFits, wrapNumber, sizeFits}
 use Rattle.wrap.specs.Calls.{wrapAnswer, unwrapAnswer, wrapOutput, unwrapOutput}
-use Rattle.wrap_answers.specs.declared.WrapAnswer.{WrapAnswer}
-use Rattle.wrap_answers.specs.declared.WrapAnswer.the-variants.{WrapDone, WrapKey, WrapSize, WrapRoom, WrongInitial}
+use Rattle.wrap_answer.specs.declared.WrapAnswer.{WrapAnswer}
+use Rattle.wrap_answer.specs.declared.WrapAnswer.the-variants.{WrapDone, WrapKey, WrapSize, WrapRoom, WrongInitial}
 use Rattle.promises.proofs.Keys.{KeyTaken}
 use Rattle.promises.proofs.WrapTerms.{afterWrap, afterUnwrap, WrapFit, WrapSays, UnwrapFit, UnwrapSays, WrappingOf}
-use Rattle.wrap_answers.proofs.Sizes.{size-parts, size-right, wrapped-size-parts, wrapped-size-right}
+use Rattle.wrap_answer.proofs.Sizes.{size-parts, size-right, wrapped-size-parts, wrapped-size-right}
 use Rattle.promises.proofs.Lemmas.WrapLaws.{step-octets, unstep-octets, unstep-step, step-unstep, pass-octets, unpass-octets, unpass-pass, pass-unpass, passes-octets, unpasses-octets, unpasses-passes, passes-unpasses, wrapped-octets, unwrapped-wrapped, opened-octets, wrapped-unwrapped, size-wraps, size-unwraps, wrap-says, unwrap-says, wrap-fits, unwrap-fits, done-fits, wrap-keeps, unwrap-keeps, over-first}
 
 -- ---- demand 3, over every lawful block cipher: each way undoes the other

@@ -7,23 +7,23 @@ use denote.Ref.{now}
 use native.Mathlib.Omega.{arith}
 use lib.ListN.{length, take, drop}
 use Rattle.octets.specs.Octets.{Bytes}
-use Rattle.fips197.specs.Cipher.{aesOf}
-use Rattle.rfc3394.specs.Wrap.{wrapped}
-use Rattle.wrap_answers.specs.Answers.{wrapNumber, wrappedSizeFits}
+use Rattle.aes_spec.specs.Cipher.{aesOf}
+use Rattle.wrap_spec.specs.Wrap.{wrapped}
+use Rattle.wrap_answer.specs.Answers.{wrapNumber, wrappedSizeFits}
 use Rattle.wrap.specs.Calls.{wrapOutput, unwrapAnswer, unwrapOutput}
-use Rattle.wrap_answers.specs.declared.WrapAnswer.{WrapAnswer}
-use Rattle.wrap_answers.specs.declared.WrapAnswer.the-variants.{WrapDone, WrapKey, WrapSize, WrapRoom, WrongInitial}
+use Rattle.wrap_answer.specs.declared.WrapAnswer.{WrapAnswer}
+use Rattle.wrap_answer.specs.declared.WrapAnswer.the-variants.{WrapDone, WrapKey, WrapSize, WrapRoom, WrongInitial}
 use Rattle.promises.proofs.Keys.{KeyTaken}
 use Rattle.promises.proofs.WrapTerms.{afterWrap, afterUnwrap, WrapFit, WrapSays, UnwrapFit, UnwrapSays, WrappingOf}
 use Rattle.promises.proofs.Lemmas.WrapLaws.{wrap-keeps, unwrap-keeps}
 use Rattle.promises.proofs.Wrap.{wrap-answer-as-told, unwrap-answer-as-told, wrap-never-19, fit-is-wrapped, fit-is-unwrapped, key-data-is-wrapped, unwrap-after-wrap, accepted-exactly-wrappings, accepted-is-handed-out}
-use Rattle.registers.specs.Registers.{passedOver, unpassedOver}
-use Rattle.wrap_answers.proofs.wrapped_size_fits.Reads as wrapped-size-fits
-use Rattle.wrap_answers.proofs.is_initial.Reads as is-initial
-use Rattle.wrap_answers.proofs.judge_wrap.Reads as judge-wrap
-use Rattle.wrap_answers.proofs.judge_unwrap.Reads as judge-unwrap
-use Rattle.registers.proofs.passes.Reads as passes
-use Rattle.registers.proofs.unpasses.Reads as unpasses
+use Rattle.wrap_registers.specs.Registers.{passedOver, unpassedOver}
+use Rattle.wrap_answer.proofs.wrapped_size_fits.Reads as wrapped-size-fits
+use Rattle.wrap_answer.proofs.is_initial.Reads as is-initial
+use Rattle.wrap_answer.proofs.judge_wrap.Reads as judge-wrap
+use Rattle.wrap_answer.proofs.judge_unwrap.Reads as judge-unwrap
+use Rattle.wrap_registers.proofs.passes.Reads as passes
+use Rattle.wrap_registers.proofs.unpasses.Reads as unpasses
 use Rattle.wrap.proofs.wrap.Reads as wrap
 use Rattle.wrap.proofs.unwrap.Reads as unwrap
 

@@ -5,12 +5,12 @@ use mathlib.Core.List.{List}
 use Prim.Native.Nat.{ℕ, _+_, _≤_, _<_}
 use lib.ListN.{length}
 use Rattle.octets.specs.Octets.{Bytes}
-use Rattle.fips197.specs.Cipher.{aesOf}
-use Rattle.rfc3394.specs.Wrap.{initial, register, wrapped, unwrapped}
-use Rattle.wrap_answers.specs.Answers.{wrappedSizeFits, sizeFits}
+use Rattle.aes_spec.specs.Cipher.{aesOf}
+use Rattle.wrap_spec.specs.Wrap.{initial, register, wrapped, unwrapped}
+use Rattle.wrap_answer.specs.Answers.{wrappedSizeFits, sizeFits}
 use Rattle.wrap.specs.Calls.{wrapAnswer, wrapOutput, unwrapAnswer, unwrapOutput}
-use Rattle.wrap_answers.specs.declared.WrapAnswer.{WrapAnswer}
-use Rattle.wrap_answers.specs.declared.WrapAnswer.the-variants.{WrapDone, WrapKey, WrapSize, WrapRoom, WrongInitial}
+use Rattle.wrap_answer.specs.declared.WrapAnswer.{WrapAnswer}
+use Rattle.wrap_answer.specs.declared.WrapAnswer.the-variants.{WrapDone, WrapKey, WrapSize, WrapRoom, WrongInitial}
 use Rattle.promises.proofs.Keys.{KeyTaken}
 
 -- the outputs after the two calls

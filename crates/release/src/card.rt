@@ -1,7 +1,7 @@
 // What a refusal says, in the words of docs/REFUSALS.md: when it comes, and what to do next. A copy without docs has it all here.
 use crate::tell;
-use layout::Head;
-use progress::Progress;
+use image_layout::Head;
+use image_progress::Progress;
 
 fn when(number: u32) {
     match number {

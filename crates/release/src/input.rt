@@ -112,7 +112,7 @@ pub fn keys(room: &mut [u8; 65]) -> usize {
 
 // The keys, which have n bytes.
 pub fn of(room: &[u8; 65], n: usize) -> &[u8] {
-    lines::part(room, 0, n)
+    text_words::part(room, 0, n)
 }
 
 fn is_two_keys(n: usize) -> bool {
@@ -136,9 +136,9 @@ fn wrong_size(n: usize) {
 }
 
 pub fn encryption_key(keys: &[u8]) -> &[u8] {
-    lines::part(keys, 0, keys.len() / 2)
+    text_words::part(keys, 0, keys.len() / 2)
 }
 
 pub fn check_key(keys: &[u8]) -> &[u8] {
-    lines::part(keys, keys.len() / 2, keys.len())
+    text_words::part(keys, keys.len() / 2, keys.len())
 }

@@ -4,10 +4,10 @@ use crate::clock;
 use crate::input;
 use crate::keep;
 use crate::line;
-use layout::Head;
+use image_layout::Head;
+use image_reader::ReadStarted;
+use image_reader::Reader;
 use line::Told;
-use reader::ReadStarted;
-use reader::Reader;
 
 type Blocks = [u8; 65536];
 
@@ -64,7 +64,7 @@ fn place_of(block: usize) -> usize {
 }
 
 fn head_at(lent: &[u8], block: usize) -> Head {
-    layout::head_of(blocks::load(lent, place_of(block)))
+    image_layout::head_of(octets_block::load(lent, place_of(block)))
 }
 
 // Whole blocks are offered. Only the last block of an image may be short, so the payload of a turn has no gap.
@@ -81,7 +81,7 @@ fn offer(r: Reading, lent: &[u8], to: i32, payload: &mut Payload) -> Reading {
         head: head_at(lent, t.accepted),
         after: After::Another,
     };
-    if !is_put(to, lines::part(payload, 0, n)) {
+    if !is_put(to, text_words::part(payload, 0, n)) {
         return u.then(After::Failed);
     }
     if answer == 0 {
@@ -112,7 +112,10 @@ fn step(r: Reading, from: i32, to: i32, lent: &mut Blocks, payload: &mut Payload
         return r.then(After::Stopped(0));
     }
     let rest = n % 512;
-    with_rest(offer(r, lines::part(lent, 0, n - rest), to, payload), rest)
+    with_rest(
+        offer(r, text_words::part(lent, 0, n - rest), to, payload),
+        rest,
+    )
 }
 
 // An image has at most 65,535 blocks and the reader refuses one more, so the bound cuts nothing off.
@@ -127,7 +130,7 @@ fn read_blocks(
     let mut r = Reading {
         reader,
         bytes: 0,
-        head: layout::head_of([0u8; 16]),
+        head: image_layout::head_of([0u8; 16]),
         after: After::Another,
     };
     let mut left: u32 = 65536;
@@ -157,7 +160,7 @@ fn told(reader: Reader, bytes: u64) -> Told {
 }
 
 fn is_complete(reader: Reader) -> bool {
-    reader::read_complete(reader).number() == 0
+    image_reader::read_complete(reader).number() == 0
 }
 
 // The whole input was accepted: 17 where it ends before the last block.
@@ -205,7 +208,7 @@ fn report(r: Reading, from: i32, to: i32) {
 }
 
 fn started(keys: &[u8]) -> ReadStarted {
-    reader::read_start(input::encryption_key(keys), input::check_key(keys))
+    image_reader::read_start(input::encryption_key(keys), input::check_key(keys))
 }
 
 // The keys have a size that is taken, so their answer is not looked at.

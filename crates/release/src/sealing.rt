@@ -4,10 +4,10 @@ use crate::input;
 use crate::keep;
 use crate::line;
 use crate::tell;
-use cut::Counted;
+use image_cut::Counted;
+use image_writer_answer::Numbers;
 use line::Told;
-use numbers::Number;
-use write_answers::Numbers;
+use text_decimal::Number;
 ghost use Prim.Native.Nat.{_≤_, _<_};
 
 type Blocks = [u8; 65536];
@@ -50,7 +50,7 @@ fn is_written(
         release: job.release,
         edition: job.edition,
     };
-    let answer = writer::write(
+    let answer = image_writer::write(
         input::encryption_key(keys),
         input::check_key(keys),
         numbers,
@@ -86,13 +86,13 @@ fn seal_block(
         job,
         next,
         last,
-        cut::block_part(payload, j),
+        image_cut::block_part(payload, j),
         &mut block,
     );
-    slices::copy(&block, blocks, j * 512);
+    octets_slice::copy(&block, blocks, j * 512);
     Sealed {
         next: after(next),
-        last: blocks::load(&block, 496),
+        last: octets_block::load(&block, 496),
         going: both(going, written),
     }
 }
@@ -154,7 +154,7 @@ fn put_blocks(
         tell::plain(b"the writer refused a block: report this with the size of the file");
         return t;
     }
-    if keep::write(job.to, lines::part(blocks, 0, k * 512)) {
+    if keep::write(job.to, text_words::part(blocks, 0, k * 512)) {
         return t;
     }
     stopped(t)
@@ -183,7 +183,7 @@ fn turn(
         return stopped(s);
     }
     let k = left(job.count as usize, i * 128, 128);
-    put_blocks(keys, job, s, k, lines::part(payload, 0, n), blocks)
+    put_blocks(keys, job, s, k, text_words::part(payload, 0, n), blocks)
 }
 
 // A byte behind the size that the file had at the start.
@@ -246,7 +246,7 @@ fn too_long() {
 fn number(i: usize, most: u64) -> Number {
     let mut word = [0u8; 32];
     let n = os::arg(i, &mut word);
-    numbers::decimal(&word[..n], most)
+    text_decimal::decimal(&word[..n], most)
 }
 
 fn seal_job(keys: &[u8], job: Job) {
@@ -270,7 +270,7 @@ fn seal_from(keys: &[u8], release: u32, edition: u32) {
         return;
     }
     let size = input::size_of(from);
-    let counted = cut::block_count(size);
+    let counted = image_cut::block_count(size);
     let Counted::Blocks(count) = counted else {
         too_long();
         return;

@@ -6,16 +6,16 @@ use Prim.Native.Nat.{ℕ, _+_, _-_, _/_, _%_, _≤_}
 use native.Mathlib.Omega.{arith}
 use lib.ListN.{length, take, drop, replicate, length-append, length-drop}
 use lib.Seq.{paste, take-at, drop-at, drop-drop, take-append-le, drop-append-le, take-length}
-use Rattle.slices.proofs.Laws.{paste-front, drop-zeros}
+use Rattle.octets_slice.proofs.Laws.{paste-front, drop-zeros}
 use Rattle.octets.specs.Octets.{padTo, same, over}
 use Rattle.octets.specs.Blocks.{BlockCipher}
-use Rattle.rfc3394.specs.Wrap.{initial, register, passes, wrapped, unwrapped}
-use Rattle.registers.specs.Registers.{passedOver, unpassedOver}
-use Rattle.registers.proofs.Places.{drop-past}
-use Rattle.registers.proofs.Sizes.{passed-is, unpassed-is}
+use Rattle.wrap_spec.specs.Wrap.{initial, register, passes, wrapped, unwrapped}
+use Rattle.wrap_registers.specs.Registers.{passedOver, unpassedOver}
+use Rattle.wrap_registers.proofs.Places.{drop-past}
+use Rattle.wrap_registers.proofs.Sizes.{passed-is, unpassed-is}
 use Rattle.wrap.specs.Unwrapping.{openedOver}
 use Rattle.wrap.specs.Calls.{opening}
-use Rattle.wrap_answers.specs.declared.WrapAnswer.the-variants.{WrapDone, WrongInitial}
+use Rattle.wrap_answer.specs.declared.WrapAnswer.the-variants.{WrapDone, WrongInitial}
 
 -- ---- wrapping
 

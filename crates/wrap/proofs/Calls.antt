@@ -11,24 +11,24 @@ use lib.Dec.{eqb, ltb}
 use lib.ListN.{length, drop}
 use Rattle.octets.specs.Octets.{Bytes, choose, same, over}
 use Rattle.octets.specs.Blocks.{Lawful}
-use Rattle.sbox.specs.Sbox.{sBox}
-use Rattle.schedule.specs.Schedule.{scheduleOf, keyNumber}
-use Rattle.schedule.specs.declared.Expanded.{Expanded}
-use Rattle.schedule.proofs.Laws.{schedule-length}
-use Rattle.fips197.specs.Cipher.{aesOf, standard}
-use Rattle.fips197.specs.Equivalent.{oneWay, inverseWords}
-use Rattle.fips197.proofs.Equivalent.{equivalent-agrees}
-use Rattle.fips197.proofs.Aes.{key-lawful}
-use Rattle.rfc3394.specs.Wrap.{initial, register, wrapped, unwrapped}
-use Rattle.wrap_answers.proofs.Sizes.{wrapped-size-parts}
-use Rattle.rfc3394.proofs.Agree.{unwrapped-same}
-use Rattle.wrap_answers.specs.Answers.{wrappedSizeFits, sizeFits, wrapRuled}
+use Rattle.aes_sbox.specs.Sbox.{sBox}
+use Rattle.aes_schedule.specs.Schedule.{scheduleOf, keyNumber}
+use Rattle.aes_schedule.specs.declared.Expanded.{Expanded}
+use Rattle.aes_schedule.proofs.Laws.{schedule-length}
+use Rattle.aes_spec.specs.Cipher.{aesOf, standard}
+use Rattle.aes_spec.specs.Equivalent.{oneWay, inverseWords}
+use Rattle.aes_spec.proofs.Equivalent.{equivalent-agrees}
+use Rattle.aes_spec.proofs.Aes.{key-lawful}
+use Rattle.wrap_spec.specs.Wrap.{initial, register, wrapped, unwrapped}
+use Rattle.wrap_answer.proofs.Sizes.{wrapped-size-parts}
+use Rattle.wrap_spec.proofs.Agree.{unwrapped-same}
+use Rattle.wrap_answer.specs.Answers.{wrappedSizeFits, sizeFits, wrapRuled}
 use Rattle.wrap.specs.Calls.{wrapAnswer, wrapOutput, opening, unwrapAnswer, unwrapOutput}
 use Rattle.wrap.specs.Unwrapping.{openedOver}
-use Rattle.wrap_answers.specs.declared.WrapAnswer.{WrapAnswer}
-use Rattle.wrap_answers.specs.declared.WrapAnswer.the-variants.{WrapDone, WrapKey, WrapSize, WrapRoom, WrongInitial}
-use Rattle.wrap_answers.proofs.WrapAnswer.{the-type}
-use Rattle.wrap_answers.proofs.Sizes.{size-parts}
+use Rattle.wrap_answer.specs.declared.WrapAnswer.{WrapAnswer}
+use Rattle.wrap_answer.specs.declared.WrapAnswer.the-variants.{WrapDone, WrapKey, WrapSize, WrapRoom, WrongInitial}
+use Rattle.wrap_answer.proofs.WrapAnswer.{the-type}
+use Rattle.wrap_answer.proofs.Sizes.{size-parts}
 
 -- the tag of an answer that is not the first case
 abbrev pub Refused : WrapAnswer → Type 0

@@ -4,13 +4,13 @@ use mathlib.Core.List.{List}
 use lib.ListN.{length, drop}
 use Rattle.octets.specs.Octets.{choose, same, over}
 use Rattle.octets.specs.Blocks.{BlockCipher}
-use Rattle.sbox.specs.Sbox.{sBox}
-use Rattle.schedule.specs.Schedule.{scheduleOf, keyNumber}
-use Rattle.fips197.specs.Cipher.{aesOf}
-use Rattle.rfc3394.specs.Wrap.{initial, register, wrapped, unwrapped}
-use Rattle.wrap_answers.specs.Answers.{sizeFits, wrappedSizeFits, wrapRuled}
-use Rattle.wrap_answers.specs.declared.WrapAnswer.{WrapAnswer}
-use Rattle.wrap_answers.specs.declared.WrapAnswer.the-variants.{WrapDone, WrapKey, WrapSize, WrapRoom, WrongInitial}
+use Rattle.aes_sbox.specs.Sbox.{sBox}
+use Rattle.aes_schedule.specs.Schedule.{scheduleOf, keyNumber}
+use Rattle.aes_spec.specs.Cipher.{aesOf}
+use Rattle.wrap_spec.specs.Wrap.{initial, register, wrapped, unwrapped}
+use Rattle.wrap_answer.specs.Answers.{sizeFits, wrappedSizeFits, wrapRuled}
+use Rattle.wrap_answer.specs.declared.WrapAnswer.{WrapAnswer}
+use Rattle.wrap_answer.specs.declared.WrapAnswer.the-variants.{WrapDone, WrapKey, WrapSize, WrapRoom, WrongInitial}
 
 unfoldable pub wrapAnswer : (key dat out : List ℕ) → WrapAnswer
 wrapAnswer key dat out = wrapRuled (keyNumber (scheduleOf sBox key .answer)) (sizeFits (length dat)) (length dat + 8) (length out) WrapDone

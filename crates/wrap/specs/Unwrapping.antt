@@ -4,7 +4,7 @@ use mathlib.Core.List.{List}
 use lib.ListN.{drop}
 use Rattle.octets.specs.Octets.{choose, same, over}
 use Rattle.octets.specs.Blocks.{BlockCipher}
-use Rattle.rfc3394.specs.Wrap.{initial, register, unwrapped}
+use Rattle.wrap_spec.specs.Wrap.{initial, register, unwrapped}
 
 -- the key data where A is the initial value, else as it was
 abbrev pub openedOver : BlockCipher → (dat out : List ℕ) → List ℕ

@@ -1,20 +1,20 @@
 // The key wrap of RFC 3394 under AES: replacement keys, wrapped under a key that the receiver has.
+use aes_schedule::KeySchedule;
 use aes_schedule_inverse::invert;
-use registers::passes;
-use registers::unpasses;
-use schedule::KeySchedule;
-use slices::copy;
-use wrap_answers::WrapAnswer;
-use wrap_answers::is_initial;
-use wrap_answers::judge_unwrap;
-use wrap_answers::judge_wrap;
+use octets_slice::copy;
+use wrap_answer::WrapAnswer;
+use wrap_answer::is_initial;
+use wrap_answer::judge_unwrap;
+use wrap_answer::judge_wrap;
+use wrap_registers::passes;
+use wrap_registers::unpasses;
 ghost use mathlib.Core.Path.{_≡_};
 ghost use Prim.Native.Nat.{_+_, _%_, _≤_};
 ghost use lib.ListN.{length};
 ghost use Rattle.octets.specs.Octets.{padTo, over};
-ghost use Rattle.fips197.specs.Cipher.{standard};
-ghost use Rattle.fips197.specs.Equivalent.{oneWay};
-ghost use Rattle.rfc3394.specs.Wrap.{wrapped, unwrapped};
+ghost use Rattle.aes_spec.specs.Cipher.{standard};
+ghost use Rattle.aes_spec.specs.Equivalent.{oneWay};
+ghost use Rattle.wrap_spec.specs.Wrap.{wrapped, unwrapped};
 ghost use Rattle.wrap.specs.Unwrapping.{openedOver};
 ghost use Rattle.wrap.specs.Calls as spec;
 

@@ -4,13 +4,13 @@ use mir.Val.{Fits}
 use denote.Ref.{now}
 use mathlib.Core.Path.{sym, ap, _∙_}
 use Rattle.octets.specs.Octets.{Octets}
-use Rattle.fips197.specs.State.{aes}
-use Rattle.fips197.proofs.Rounds.{round-count}
-use Rattle.states.specs.Columns.{blockOf}
-use Rattle.states.proofs.Loaded.{loaded}
-use Rattle.sbox.specs.Sbox.{invSBox}
-use Rattle.fips197.specs.Equivalent.{eqInvCipher}
-use Rattle.fips197.specs.Equivalent.{eqDecryptBlock}
+use Rattle.aes_spec.specs.State.{aes}
+use Rattle.aes_spec.proofs.Rounds.{round-count}
+use Rattle.aes_state.specs.Columns.{blockOf}
+use Rattle.aes_state.proofs.Loaded.{loaded}
+use Rattle.aes_sbox.specs.Sbox.{invSBox}
+use Rattle.aes_spec.specs.Equivalent.{eqInvCipher}
+use Rattle.aes_spec.specs.Equivalent.{eqDecryptBlock}
 use borrow.Author.Needs.{needs}
 use Rattle.aes_rounds_inverse.proofs.decrypt_block.Statement.{statement}
 use Rattle.aes_rounds_inverse.proofs.decrypt_block.Tie as tie

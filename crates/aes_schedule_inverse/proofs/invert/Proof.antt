@@ -3,8 +3,8 @@ use Prim.Native.Nat.{ℕ, _*_}
 use native.Mathlib.Omega.{arith}
 use denote.Ref.{now}
 use lib.ListN.{length}
-use Rattle.fips197.specs.Equivalent.{mixedBack, inverseWords}
-use Rattle.fips197.proofs.Rounds.{round-count}
+use Rattle.aes_spec.specs.Equivalent.{mixedBack, inverseWords}
+use Rattle.aes_spec.proofs.Rounds.{round-count}
 use borrow.Author.Needs.{needs}
 use Rattle.aes_schedule_inverse.proofs.invert.Statement.{statement}
 use Rattle.aes_schedule_inverse.proofs.invert.Tie as tie

@@ -5,9 +5,9 @@ use native.Mathlib.Omega.{arith}
 use borrow.Author.Needs.{needs}
 use denote.Ref.{now}
 use lib.ListN.{length, getD, set, length-set}
-use Rattle.mixing.specs.Mixing.{invMixColumn}
-use Rattle.fips197.specs.Equivalent.{mixedBack}
-use Rattle.fips197.proofs.Equivalent.{mixed-none, mixed-more}
+use Rattle.aes_mix.specs.Mixing.{invMixColumn}
+use Rattle.aes_spec.specs.Equivalent.{mixedBack}
+use Rattle.aes_spec.proofs.Equivalent.{mixed-none, mixed-more}
 use Rattle.aes_schedule_inverse.proofs.mix_back.Statement.{statement}
 use Rattle.aes_schedule_inverse.proofs.mix_back.Tie as tie
 

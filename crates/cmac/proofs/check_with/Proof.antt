@@ -1,7 +1,7 @@
 use mathlib.Core.Path.{_∙_}
 use denote.Ref.{now}
-use Rattle.fips197.specs.Cipher.{standard}
-use Rattle.running.proofs.Laws.{whole-fed}
+use Rattle.aes_spec.specs.Cipher.{standard}
+use Rattle.cmac_run.proofs.Laws.{whole-fed}
 use borrow.Author.Needs.{needs}
 use Rattle.cmac.proofs.check_with.Statement.{statement}
 use Rattle.cmac.proofs.check_with.Tie as tie

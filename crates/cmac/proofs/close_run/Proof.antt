@@ -1,8 +1,8 @@
 use mathlib.Core.Path.{_∙_}
 use denote.Ref.{now}
-use Rattle.sp800_38b.specs.Cmac.{key2}
-use Rattle.fips197.specs.Cipher.{standard}
-use Rattle.running.proofs.Laws.{closed-by}
+use Rattle.cmac_spec.specs.Cmac.{key2}
+use Rattle.aes_spec.specs.Cipher.{standard}
+use Rattle.cmac_run.proofs.Laws.{closed-by}
 use borrow.Author.Needs.{needs}
 use Rattle.cmac.proofs.close_run.Statement.{statement}
 use Rattle.cmac.proofs.close_run.Tie as tie

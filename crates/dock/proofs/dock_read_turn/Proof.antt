@@ -1,8 +1,8 @@
 use Prim.Native.Nat.{ℕ}
 use mathlib.Core.List.{List}
 use mathlib.Core.Path.{ap, _∙_}
-use Rattle.reader.specs.declared.Turn.{Turn}
-use Rattle.turn_answers.specs.Answers.{turnAnswer}
+use Rattle.image_reader.specs.declared.Turn.{Turn}
+use Rattle.dock_turn.specs.Answers.{turnAnswer}
 use borrow.Author.Needs.{needs}
 use Rattle.dock.proofs.dock_read_turn.Statement.{statement}
 use Rattle.dock.proofs.dock_read_turn.Tie as tie

@@ -1,7 +1,7 @@
 use mathlib.Core.Path.{ap, _∙_}
-use Rattle.wrap_answers.specs.Answers.{wrapNumber}
+use Rattle.wrap_answer.specs.Answers.{wrapNumber}
 use Rattle.wrap.specs.Calls.{wrapOutput}
-use Rattle.wrap_answers.specs.declared.WrapAnswer.{WrapAnswer}
+use Rattle.wrap_answer.specs.declared.WrapAnswer.{WrapAnswer}
 use borrow.Author.Needs.{needs}
 use Rattle.dock.proofs.dock_wrap.Statement.{statement}
 use Rattle.dock.proofs.dock_wrap.Tie as tie

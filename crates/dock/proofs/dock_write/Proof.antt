@@ -1,7 +1,7 @@
 use mathlib.Core.Path.{ap, _∙_}
-use Rattle.write_answers.specs.Answers.{writeNumber}
-use Rattle.writer.specs.Calls.{writeOutput}
-use Rattle.write_answers.specs.declared.WriteAnswer.{WriteAnswer}
+use Rattle.image_writer_answer.specs.Answers.{writeNumber}
+use Rattle.image_writer.specs.Calls.{writeOutput}
+use Rattle.image_writer_answer.specs.declared.WriteAnswer.{WriteAnswer}
 use Rattle.dock.specs.Answers.{numbers}
 use borrow.Author.Needs.{needs}
 use Rattle.dock.proofs.dock_write.Statement.{statement}

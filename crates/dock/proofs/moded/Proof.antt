@@ -1,6 +1,6 @@
 use Rattle.dock.specs.Answers.{afterMode}
 use mathlib.Core.Path.{ap, _∙_}
-use Rattle.mode_answers.specs.Answers.{modeNumber}
+use Rattle.modes_answer.specs.Answers.{modeNumber}
 use Rattle.modes.specs.Calls.{modeOutput}
 use Rattle.modes.specs.declared.Applied.{Applied}
 use borrow.Author.Needs.{needs}

@@ -13,17 +13,17 @@ use Rattle.octets.specs.Octets.{choose, Bytes, Octets}
 use Rattle.octets.specs.Blocks.{BlockCipher, Lawful}
 use Rattle.octets.proofs.Blocks.{take-bytes, append-bytes}
 use Rattle.octets.proofs.Same.{same-true}
-use Rattle.sp800_38b.specs.Cmac.{cmac, SameOutside}
-use Rattle.sp800_38b.proofs.OnePiece.{one-piece}
-use Rattle.layout.specs.Layout.{headOf}
-use Rattle.layout.specs.declared.Head.{Head}
-use Rattle.limits.specs.Marks.{isEdition, selected, markOf}
-use Rattle.progress.specs.Progress.{markFor}
-use Rattle.progress.specs.declared.Progress.{Progress}
-use Rattle.format.specs.Edition.{tailOf, edition}
-use Rattle.format.specs.Sealed.{sealed, checks}
-use Rattle.format.specs.Judge.{Keys, always, either, ofBoth, fresh, taken}
-use Rattle.turns.specs.Turn.{Reading, readBlocks}
+use Rattle.cmac_spec.specs.Cmac.{cmac, SameOutside}
+use Rattle.cmac_spec.proofs.OnePiece.{one-piece}
+use Rattle.image_layout.specs.Layout.{headOf}
+use Rattle.image_layout.specs.declared.Head.{Head}
+use Rattle.image_limits.specs.Marks.{isEdition, selected, markOf}
+use Rattle.image_progress.specs.Progress.{markFor}
+use Rattle.image_progress.specs.declared.Progress.{Progress}
+use Rattle.image_spec.specs.Edition.{tailOf, edition}
+use Rattle.image_spec.specs.Sealed.{sealed, checks}
+use Rattle.image_spec.specs.Judge.{Keys, always, either, ofBoth, fresh, taken}
+use Rattle.image_reader_turn.specs.Turn.{Reading, readBlocks}
 use Rattle.promises.proofs.ImageTerms.{Right, Met, Blocks}
 use Rattle.promises.proofs.Lemmas.ImageSealed.{sealed-size, sealed-bytes, sealed-checks}
 use Rattle.promises.proofs.Lemmas.ImageJudge.{accepted-met, met-accepted}

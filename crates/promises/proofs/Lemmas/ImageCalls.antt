@@ -13,36 +13,36 @@ use Rattle.octets.proofs.Both.{and-true}
 use Rattle.octets.specs.Octets.{Octets, choose, Bytes, over}
 use Rattle.octets.specs.Blocks.{Lawful}
 use Rattle.octets.proofs.Blocks.{take-octets, drop-bytes}
-use Rattle.sbox.specs.Sbox.{sBox}
-use Rattle.schedule.specs.Schedule.{scheduleOf, keyNumber, roundCount}
-use Rattle.schedule.specs.Schedule as schedule
-use Rattle.schedule.specs.declared.Expanded.{Expanded}
-use Rattle.fips197.specs.Cipher.{aesOf, standard}
-use Rattle.fips197.proofs.Aes.{aes-lawful, key-lawful}
-use Rattle.sp800_38b.specs.Cmac.{cmac}
-use Rattle.layout.specs.Layout.{headOf}
-use Rattle.limits.specs.Fits.{countFits, lengthFits}
-use Rattle.limits.specs.Marks.{isEdition}
-use Rattle.reasons.specs.declared.Verdict.the-variants.{Accepted}
-use Rattle.layout.proofs.Laws.{Wide}
-use Rattle.format.specs.Edition.{tailOf, edition}
-use Rattle.format.specs.Sealed.{headFor, opened}
-use Rattle.format.specs.Judge.{Keys, either, fresh, taken}
-use Rattle.format.specs.Lent.{bothTaken}
-use Rattle.turns.specs.Turn.{Reading, readBlocks, cut, handled, whole, blocksRead, turnUnder}
-use Rattle.write_answers.specs.Answers.{lastFor, writeRuled}
-use Rattle.writer.specs.Calls.{blockOf, writeAnswer, writeOutput}
-use Rattle.reader.specs.Calls.{startedBy, startOf}
+use Rattle.aes_sbox.specs.Sbox.{sBox}
+use Rattle.aes_schedule.specs.Schedule.{scheduleOf, keyNumber, roundCount}
+use Rattle.aes_schedule.specs.Schedule as schedule
+use Rattle.aes_schedule.specs.declared.Expanded.{Expanded}
+use Rattle.aes_spec.specs.Cipher.{aesOf, standard}
+use Rattle.aes_spec.proofs.Aes.{aes-lawful, key-lawful}
+use Rattle.cmac_spec.specs.Cmac.{cmac}
+use Rattle.image_layout.specs.Layout.{headOf}
+use Rattle.image_limits.specs.Fits.{countFits, lengthFits}
+use Rattle.image_limits.specs.Marks.{isEdition}
+use Rattle.image_reasons.specs.declared.Verdict.the-variants.{Accepted}
+use Rattle.image_layout.proofs.Laws.{Wide}
+use Rattle.image_spec.specs.Edition.{tailOf, edition}
+use Rattle.image_spec.specs.Sealed.{headFor, opened}
+use Rattle.image_spec.specs.Judge.{Keys, either, fresh, taken}
+use Rattle.image_spec.specs.Lent.{bothTaken}
+use Rattle.image_reader_turn.specs.Turn.{Reading, readBlocks, cut, handled, whole, blocksRead, turnUnder}
+use Rattle.image_writer_answer.specs.Answers.{lastFor, writeRuled}
+use Rattle.image_writer.specs.Calls.{blockOf, writeAnswer, writeOutput}
+use Rattle.image_reader.specs.Calls.{startedBy, startOf}
 use Rattle.image.specs.Calls.{keysOf, blocksBy, turnAfter, turnOf}
-use Rattle.tally.specs.declared.BlocksRead.{BlocksRead}
-use Rattle.write_answers.specs.declared.WriteAnswer.{WriteAnswer}
-use Rattle.write_answers.specs.declared.WriteAnswer.the-variants.{Written, WriteKey, WriteCount, WriteNumber, WriteLength, WriteEdition, WriteRoom}
-use Rattle.write_answers.specs.declared.Numbers.{Numbers}
-use Rattle.reader.specs.declared.Reader.{Reader}
-use Rattle.tally.specs.declared.Stop.the-variants.{End, Asked, Lent, Room}
-use Rattle.reader.specs.declared.Turn.{Turn}
-use Rattle.format.proofs.Editions.{tail-bytes}
-use Rattle.writer.proofs.Calls.{last-bytes, last-size, mark-small}
+use Rattle.image_reader_tally.specs.declared.BlocksRead.{BlocksRead}
+use Rattle.image_writer_answer.specs.declared.WriteAnswer.{WriteAnswer}
+use Rattle.image_writer_answer.specs.declared.WriteAnswer.the-variants.{Written, WriteKey, WriteCount, WriteNumber, WriteLength, WriteEdition, WriteRoom}
+use Rattle.image_writer_answer.specs.declared.Numbers.{Numbers}
+use Rattle.image_reader.specs.declared.Reader.{Reader}
+use Rattle.image_reader_tally.specs.declared.Stop.the-variants.{End, Asked, Lent, Room}
+use Rattle.image_reader.specs.declared.Turn.{Turn}
+use Rattle.image_spec.proofs.Editions.{tail-bytes}
+use Rattle.image_writer.proofs.Calls.{last-bytes, last-size, mark-small}
 use Rattle.promises.proofs.ImageTerms.{Blocks, Fit, WriteSays, inState, readingOf, given, Fair, StopSays}
 use Rattle.promises.proofs.Keys.{KeyTaken}
 use Rattle.promises.proofs.Lemmas.ImageSealed.{sealed-size}

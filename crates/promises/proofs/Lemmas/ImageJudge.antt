@@ -13,28 +13,28 @@ use lib.Seq.{length-take-le, take-add}
 use Rattle.octets.specs.Octets.{choose, Bytes, Octets}
 use Rattle.octets.specs.Blocks.{BlockCipher, Lawful}
 use Rattle.octets.proofs.Blocks.{take-bytes, drop-bytes, take-octets}
-use Rattle.sp800_38a.specs.Modes.{moded}
-use Rattle.sp800_38a.specs.declared.Operation.the-variants.{CbcEncrypt, CbcDecrypt}
-use Rattle.sp800_38a.proofs.Sixteen.{length-16, undone-16, bytes-16}
-use Rattle.sp800_38b.specs.Cmac.{cmac, SameOutside}
-use Rattle.layout.specs.Layout.{headOf}
-use Rattle.limits.specs.Fits.{countFits, lengthFits}
-use Rattle.reasons.specs.Reasons.{firstOf}
-use Rattle.progress.specs.Progress.{closed}
-use Rattle.header.specs.Rules.{headTests}
-use Rattle.layout.specs.declared.Head.{Head}
-use Rattle.progress.specs.declared.Progress.{Progress}
-use Rattle.reasons.specs.declared.Reason.{Reason}
-use Rattle.reasons.specs.declared.Reason.the-variants.{AfterLast, CheckWrong, Count, Number, OtherCount, OtherRelease, Length, Reserved, FillNotZero}
-use Rattle.reasons.specs.declared.Verdict.{Verdict}
-use Rattle.reasons.specs.declared.Verdict.the-variants.{Accepted, Refused}
-use Rattle.layout.proofs.Laws.{Wide, head-bytes}
-use Rattle.reasons.proofs.Order.{AllFalse, all-false, all-accepted}
+use Rattle.modes_spec.specs.Modes.{moded}
+use Rattle.modes_spec.specs.declared.Operation.the-variants.{CbcEncrypt, CbcDecrypt}
+use Rattle.modes_spec.proofs.Sixteen.{length-16, undone-16, bytes-16}
+use Rattle.cmac_spec.specs.Cmac.{cmac, SameOutside}
+use Rattle.image_layout.specs.Layout.{headOf}
+use Rattle.image_limits.specs.Fits.{countFits, lengthFits}
+use Rattle.image_reasons.specs.Reasons.{firstOf}
+use Rattle.image_progress.specs.Progress.{closed}
+use Rattle.image_rules.specs.Rules.{headTests}
+use Rattle.image_layout.specs.declared.Head.{Head}
+use Rattle.image_progress.specs.declared.Progress.{Progress}
+use Rattle.image_reasons.specs.declared.Reason.{Reason}
+use Rattle.image_reasons.specs.declared.Reason.the-variants.{AfterLast, CheckWrong, Count, Number, OtherCount, OtherRelease, Length, Reserved, FillNotZero}
+use Rattle.image_reasons.specs.declared.Verdict.{Verdict}
+use Rattle.image_reasons.specs.declared.Verdict.the-variants.{Accepted, Refused}
+use Rattle.image_layout.proofs.Laws.{Wide, head-bytes}
+use Rattle.image_reasons.proofs.Order.{AllFalse, all-false, all-accepted}
 use Rattle.octets.proofs.Same.{same-true}
 use Rattle.octets.proofs.Both.{and-true}
-use Rattle.format.specs.Sealed.{filled, front, sealed, opened, checks, zeroAfter, fillZero}
-use Rattle.format.specs.Edition.{Edition}
-use Rattle.format.specs.Judge.{Keys, tests, judge}
+use Rattle.image_spec.specs.Sealed.{filled, front, sealed, opened, checks, zeroAfter, fillZero}
+use Rattle.image_spec.specs.Edition.{Edition}
+use Rattle.image_spec.specs.Judge.{Keys, tests, judge}
 use Rattle.promises.proofs.ImageTerms.{Right, Met, HeadRow, Row, rank, HeadSays, Says, unchecked, payload}
 use Rattle.promises.proofs.Lemmas.ImageSealed.{fill-of, sealed-size, sealed-bytes, sealed-checks, sealed-head, sealed-fill, same-block}
 

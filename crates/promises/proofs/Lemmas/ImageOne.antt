@@ -15,21 +15,21 @@ use Rattle.octets.specs.Octets.{Bytes, Octets}
 use Rattle.octets.specs.Words.{word}
 use Rattle.octets.specs.Blocks.{BlockCipher, Lawful}
 use Rattle.octets.proofs.Blocks.{take-bytes, append-bytes, length-nil}
-use Rattle.sp800_38b.specs.Cmac.{cmac}
-use Rattle.layout.specs.Layout.{headOf}
-use Rattle.limits.specs.Fits.{lengthFits}
-use Rattle.progress.specs.Progress.{done}
-use Rattle.layout.specs.declared.Head.{Head}
-use Rattle.layout.proofs.Laws.{Wide}
-use Rattle.format.specs.Edition.{Edition, noCheck}
-use Rattle.progress.specs.declared.Progress.{Progress}
-use Rattle.format.specs.Sealed.{headFor, blockFor, sealed}
-use Rattle.format.specs.Judge.{Keys, Rule, always, either, byRule, ofBoth, fresh, taken}
-use Rattle.turns.specs.Turn.{Reading, readBlocks, blocksRead}
-use Rattle.tally.specs.declared.Stop.the-variants.{End}
+use Rattle.cmac_spec.specs.Cmac.{cmac}
+use Rattle.image_layout.specs.Layout.{headOf}
+use Rattle.image_limits.specs.Fits.{lengthFits}
+use Rattle.image_progress.specs.Progress.{done}
+use Rattle.image_layout.specs.declared.Head.{Head}
+use Rattle.image_layout.proofs.Laws.{Wide}
+use Rattle.image_spec.specs.Edition.{Edition, noCheck}
+use Rattle.image_progress.specs.declared.Progress.{Progress}
+use Rattle.image_spec.specs.Sealed.{headFor, blockFor, sealed}
+use Rattle.image_spec.specs.Judge.{Keys, Rule, always, either, byRule, ofBoth, fresh, taken}
+use Rattle.image_reader_turn.specs.Turn.{Reading, readBlocks, blocksRead}
+use Rattle.image_reader_tally.specs.declared.Stop.the-variants.{End}
 use Rattle.image.specs.Calls.{keysOf, turnAfter, turnOf}
-use Rattle.reader.specs.declared.Reader.{Reader}
-use Rattle.reader.specs.declared.Turn.{Turn}
+use Rattle.image_reader.specs.declared.Reader.{Reader}
+use Rattle.image_reader.specs.declared.Turn.{Turn}
 use Rattle.promises.proofs.ImageTerms.{Proper, Met, Blocks, payload, parts, blocks, written, image, readingOf, given, Fair, Lending, AllFair, offered, readerAfter, AllAccepted}
 use Rattle.promises.proofs.Lemmas.ImageSealed.{sealed-head}
 use Rattle.promises.proofs.Lemmas.ImageJudge.{accepted-met, right-below, fits-le, payload-length, payload-bytes, accepted-sealed}

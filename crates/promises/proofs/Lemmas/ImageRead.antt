@@ -7,28 +7,28 @@ use native.Mathlib.Omega.{arith}
 use lib.ListN.{length, take, drop, length-append}
 use Rattle.octets.specs.Octets.{choose, Bytes, Octets, over}
 use Rattle.octets.specs.Blocks.{BlockCipher, Lawful}
-use Rattle.fips197.specs.Cipher.{aesOf}
-use Rattle.fips197.proofs.Aes.{key-lawful}
-use Rattle.sp800_38b.specs.Cmac.{cmac, SameOutside}
-use Rattle.layout.specs.Layout.{headOf}
-use Rattle.limits.specs.Marks.{selected}
-use Rattle.progress.specs.Progress.{done, closed}
-use Rattle.reasons.specs.declared.Reason.the-variants.{AfterLast, CheckWrong}
-use Rattle.layout.specs.declared.Head.{Head}
-use Rattle.progress.specs.declared.Progress.{Progress}
-use Rattle.reasons.specs.declared.Verdict.the-variants.{Accepted, Refused}
-use Rattle.layout.proofs.Laws.{Wide}
-use Rattle.format.specs.Edition.{tailOf, edition}
-use Rattle.format.specs.Sealed.{filled, headFor, sealed, opened, checks}
-use Rattle.format.specs.Judge.{Keys, judge, either, ofBoth}
-use Rattle.turns.specs.Turn.{Reading, readBlocks, handled, blocksRead}
-use Rattle.write_answers.specs.Answers.{lastFor}
-use Rattle.writer.specs.Calls.{blockOf}
+use Rattle.aes_spec.specs.Cipher.{aesOf}
+use Rattle.aes_spec.proofs.Aes.{key-lawful}
+use Rattle.cmac_spec.specs.Cmac.{cmac, SameOutside}
+use Rattle.image_layout.specs.Layout.{headOf}
+use Rattle.image_limits.specs.Marks.{selected}
+use Rattle.image_progress.specs.Progress.{done, closed}
+use Rattle.image_reasons.specs.declared.Reason.the-variants.{AfterLast, CheckWrong}
+use Rattle.image_layout.specs.declared.Head.{Head}
+use Rattle.image_progress.specs.declared.Progress.{Progress}
+use Rattle.image_reasons.specs.declared.Verdict.the-variants.{Accepted, Refused}
+use Rattle.image_layout.proofs.Laws.{Wide}
+use Rattle.image_spec.specs.Edition.{tailOf, edition}
+use Rattle.image_spec.specs.Sealed.{filled, headFor, sealed, opened, checks}
+use Rattle.image_spec.specs.Judge.{Keys, judge, either, ofBoth}
+use Rattle.image_reader_turn.specs.Turn.{Reading, readBlocks, handled, blocksRead}
+use Rattle.image_writer_answer.specs.Answers.{lastFor}
+use Rattle.image_writer.specs.Calls.{blockOf}
 use Rattle.image.specs.Calls.{keysOf, turnAfter}
-use Rattle.write_answers.specs.declared.Numbers.{Numbers}
-use Rattle.reader.specs.declared.Reader.{Reader}
-use Rattle.tally.specs.declared.Stop.the-variants.{End}
-use Rattle.reader.specs.declared.Turn.{Turn}
+use Rattle.image_writer_answer.specs.declared.Numbers.{Numbers}
+use Rattle.image_reader.specs.declared.Reader.{Reader}
+use Rattle.image_reader_tally.specs.declared.Stop.the-variants.{End}
+use Rattle.image_reader.specs.declared.Turn.{Turn}
 use Rattle.promises.proofs.ImageTerms.{Met, SealedOn, readingOf, unchecked, Blocks, payload, plains, parts, lengths, AllFilled, partsIn, Fit, Wrote, readerOf, Waits, FromStart, Sound, given, Lending, AllFair, offered, readerAfter, AllAccepted, handedOut, counted, started, turn}
 use Rattle.promises.proofs.Lemmas.ImageSealed.{sealed-size, sealed-bytes, sealed-opened, sealed-head}
 use Rattle.promises.proofs.Lemmas.ImageJudge.{accepted-met, met-accepted, wrong-check, damaged-check, sealed-accepted}

@@ -15,15 +15,15 @@ use Rattle.octets.proofs.Xor.{lt-or-le}
 use Rattle.octets.proofs.Fill.{getD-padTo, length-padTo}
 use Rattle.octets.proofs.Blocks.{take-bytes, append-bytes}
 use Rattle.octets.proofs.Same.{same-true, same-refl}
-use Rattle.sp800_38a.specs.Modes.{moded}
-use Rattle.sp800_38a.specs.declared.Operation.the-variants.{CbcEncrypt, CbcDecrypt}
-use Rattle.sp800_38a.proofs.Sixteen.{length-16, undone-16, bytes-16}
-use Rattle.sp800_38b.specs.Cmac.{cmac, SameOutside}
-use Rattle.sp800_38b.proofs.OnePiece.{cmac-octets, one-piece}
-use Rattle.layout.specs.Layout.{headOf, headBytes}
-use Rattle.layout.specs.declared.Head.{Head}
-use Rattle.layout.proofs.Laws.{Wide, head-of, head-octets}
-use Rattle.format.specs.Sealed.{filled, front, covered, sealed, opened, checks, allZero, zeroAfter, fillZero}
+use Rattle.modes_spec.specs.Modes.{moded}
+use Rattle.modes_spec.specs.declared.Operation.the-variants.{CbcEncrypt, CbcDecrypt}
+use Rattle.modes_spec.proofs.Sixteen.{length-16, undone-16, bytes-16}
+use Rattle.cmac_spec.specs.Cmac.{cmac, SameOutside}
+use Rattle.cmac_spec.proofs.OnePiece.{cmac-octets, one-piece}
+use Rattle.image_layout.specs.Layout.{headOf, headBytes}
+use Rattle.image_layout.specs.declared.Head.{Head}
+use Rattle.image_layout.proofs.Laws.{Wide, head-of, head-octets}
+use Rattle.image_spec.specs.Sealed.{filled, front, covered, sealed, opened, checks, allZero, zeroAfter, fillZero}
 
 -- ---- zeros
 

@@ -6,12 +6,12 @@ use Prim.Native.Nat.{ℕ, _<_}
 use native.Mathlib.Omega.{arith}
 use borrow.Author.Tests.{eqb-true, eqb-false, ltb-true, le-leb, lt-leb}
 use lib.Dec.{eqb, ltb, leb}
-use Rattle.layout.specs.Layout.{headOf}
-use Rattle.progress.specs.Progress.{done, closed}
-use Rattle.progress.specs.declared.Progress.{Progress}
-use Rattle.reasons.specs.declared.Verdict.the-variants.{Accepted}
-use Rattle.format.specs.Judge.{Keys, Rule, byRule, fresh, taken}
-use Rattle.turns.specs.Turn.{Reading, readBlocks}
+use Rattle.image_layout.specs.Layout.{headOf}
+use Rattle.image_progress.specs.Progress.{done, closed}
+use Rattle.image_progress.specs.declared.Progress.{Progress}
+use Rattle.image_reasons.specs.declared.Verdict.the-variants.{Accepted}
+use Rattle.image_spec.specs.Judge.{Keys, Rule, byRule, fresh, taken}
+use Rattle.image_reader_turn.specs.Turn.{Reading, readBlocks}
 use Rattle.promises.proofs.ImageTerms.{Sound}
 use Rattle.promises.proofs.Lemmas.ImageJudge.{accepted-met, right-below}
 use Rattle.promises.proofs.Lemmas.ImageTurn.{by-verdict}

@@ -8,16 +8,16 @@ use native.Mathlib.Omega.{arith}
 use lib.ListN.{length, getD, take, drop, length-append, length-take}
 use lib.Seq.{take-at, drop-at, drop-drop, take-append-le}
 use Rattle.octets.specs.Blocks.{BlockCipher, Lawful}
-use Rattle.layout.specs.Layout.{headOf}
-use Rattle.reasons.specs.declared.Reason.{Reason}
-use Rattle.reasons.specs.declared.Verdict.{Verdict}
-use Rattle.reasons.specs.declared.Verdict.the-variants.{Accepted, Refused}
-use Rattle.progress.specs.declared.Progress.{Progress}
-use Rattle.format.specs.Sealed.{opened}
-use Rattle.format.specs.Judge.{Keys, BlockReader, Rule, byRule, taken}
-use Rattle.turns.specs.Turn.{Reading, later, onward, readBlocks}
-use Rattle.tally.specs.declared.Stop.{Stop}
-use Rattle.tally.specs.declared.Stop.the-variants.{End, Asked, Lent, Room, At}
+use Rattle.image_layout.specs.Layout.{headOf}
+use Rattle.image_reasons.specs.declared.Reason.{Reason}
+use Rattle.image_reasons.specs.declared.Verdict.{Verdict}
+use Rattle.image_reasons.specs.declared.Verdict.the-variants.{Accepted, Refused}
+use Rattle.image_progress.specs.declared.Progress.{Progress}
+use Rattle.image_spec.specs.Sealed.{opened}
+use Rattle.image_spec.specs.Judge.{Keys, BlockReader, Rule, byRule, taken}
+use Rattle.image_reader_turn.specs.Turn.{Reading, later, onward, readBlocks}
+use Rattle.image_reader_tally.specs.declared.Stop.{Stop}
+use Rattle.image_reader_tally.specs.declared.Stop.the-variants.{End, Asked, Lent, Room, At}
 use Rattle.promises.proofs.ImageTerms.{AllMet, Blocks, payload, plains, parts, lengths, AllFilled, partsIn, moved, laterBy, andThen}
 use Rattle.promises.proofs.Lemmas.ImageJudge.{accepted-met, met-accepted, opened-length, payload-length, payload-filled}
 

@@ -13,20 +13,20 @@ use lib.Seq.{drop-drop}
 use Rattle.octets.specs.Octets.{choose, Bytes, Octets}
 use Rattle.octets.specs.Blocks.{BlockCipher, Lawful}
 use Rattle.octets.proofs.Blocks.{take-bytes, drop-bytes, zeros-bytes, length-nil}
-use Rattle.sp800_38a.specs.Pieces.{piece}
-use Rattle.sp800_38b.specs.Cmac.{cmac}
-use Rattle.layout.specs.Layout.{headOf}
-use Rattle.limits.specs.Fits.{lengthFits}
-use Rattle.progress.specs.Progress.{done}
-use Rattle.layout.specs.declared.Head.{Head}
-use Rattle.reasons.specs.declared.Verdict.the-variants.{Accepted}
-use Rattle.layout.proofs.Laws.{Wide}
-use Rattle.format.specs.Edition.{Edition, noCheck}
-use Rattle.progress.specs.declared.Progress.{Progress}
-use Rattle.format.specs.Sealed.{headFor, blockFor}
-use Rattle.format.specs.Judge.{Keys, Rule, always, byRule, fresh, taken}
-use Rattle.turns.specs.Turn.{Reading, later, readBlocks}
-use Rattle.tally.specs.declared.Stop.the-variants.{End}
+use Rattle.modes_spec.specs.Pieces.{piece}
+use Rattle.cmac_spec.specs.Cmac.{cmac}
+use Rattle.image_layout.specs.Layout.{headOf}
+use Rattle.image_limits.specs.Fits.{lengthFits}
+use Rattle.image_progress.specs.Progress.{done}
+use Rattle.image_layout.specs.declared.Head.{Head}
+use Rattle.image_reasons.specs.declared.Verdict.the-variants.{Accepted}
+use Rattle.image_layout.proofs.Laws.{Wide}
+use Rattle.image_spec.specs.Edition.{Edition, noCheck}
+use Rattle.image_progress.specs.declared.Progress.{Progress}
+use Rattle.image_spec.specs.Sealed.{headFor, blockFor}
+use Rattle.image_spec.specs.Judge.{Keys, Rule, always, byRule, fresh, taken}
+use Rattle.image_reader_turn.specs.Turn.{Reading, later, readBlocks}
+use Rattle.image_reader_tally.specs.declared.Stop.the-variants.{End}
 use Rattle.promises.proofs.ImageTerms.{Proper, Right, Blocks, payload, parts, blocks, written, image}
 use Rattle.promises.proofs.Lemmas.ImageSealed.{filled-payload, sealed-size, sealed-bytes, sealed-opened, sealed-head}
 use Rattle.promises.proofs.Lemmas.ImageJudge.{sealed-accepted}

@@ -13,16 +13,16 @@ use Rattle.octets.specs.Words.{byte, bytesOf}
 use Rattle.octets.specs.Blocks.{_⊕_, BlockCipher, Lawful}
 use Rattle.octets.proofs.Blocks.{⊕-undo, ⊕-octets, take-bytes, drop-bytes, append-bytes, take-octets}
 use Rattle.octets.proofs.Words.{byte-lt}
-use Rattle.sbox.specs.Sbox.{sBox}
-use Rattle.schedule.specs.Schedule.{scheduleOf, keyNumber}
-use Rattle.fips197.specs.Cipher.{aesOf}
+use Rattle.aes_sbox.specs.Sbox.{sBox}
+use Rattle.aes_schedule.specs.Schedule.{scheduleOf, keyNumber}
+use Rattle.aes_spec.specs.Cipher.{aesOf}
 use Rattle.octets.proofs.Same.{same-true, same-refl}
-use Rattle.rfc3394.specs.Wrap.{initial, counter, register, replaced, msb, lsb, step, pass, passes, wrapped, unstep, unpass, unpasses, unwrapped}
-use Rattle.wrap_answers.proofs.Sizes.{size-parts, size-right, wrapped-size-parts, wrapped-size-right}
-use Rattle.wrap_answers.specs.Answers.{wrappedSizeFits, wrapNumber, sizeFits, wrapRuled}
+use Rattle.wrap_spec.specs.Wrap.{initial, counter, register, replaced, msb, lsb, step, pass, passes, wrapped, unstep, unpass, unpasses, unwrapped}
+use Rattle.wrap_answer.proofs.Sizes.{size-parts, size-right, wrapped-size-parts, wrapped-size-right}
+use Rattle.wrap_answer.specs.Answers.{wrappedSizeFits, wrapNumber, sizeFits, wrapRuled}
 use Rattle.wrap.specs.Calls.{wrapAnswer, wrapOutput, opening, unwrapAnswer, unwrapOutput}
-use Rattle.wrap_answers.specs.declared.WrapAnswer.{WrapAnswer}
-use Rattle.wrap_answers.specs.declared.WrapAnswer.the-variants.{WrapDone, WrapKey, WrapSize, WrapRoom, WrongInitial}
+use Rattle.wrap_answer.specs.declared.WrapAnswer.{WrapAnswer}
+use Rattle.wrap_answer.specs.declared.WrapAnswer.the-variants.{WrapDone, WrapKey, WrapSize, WrapRoom, WrongInitial}
 use Rattle.promises.proofs.WrapTerms.{WrapFit, WrapSays, UnwrapFit, UnwrapSays}
 
 -- ---- lists of bytes

@@ -1,8 +1,8 @@
-use Rattle.slices.proofs.Laws.{copied-fits}
+use Rattle.octets_slice.proofs.Laws.{copied-fits}
 use lib.ListN.{length}
 use Prim.Native.Nat.{_+_, _-_}
 use mathlib.Core.Path.{_∙_, refl}
-use Rattle.fips197.specs.Cipher.{standard}
+use Rattle.aes_spec.specs.Cipher.{standard}
 use Rattle.wrap.proofs.Building.{wrapped-over}
 use native.Mathlib.Omega.{arith}
 use borrow.Author.Needs.{needs}

@@ -2,7 +2,7 @@ use mathlib.Core.Path.{_≡_}
 use Prim.Native.Nat.{_*_}
 use native.Mathlib.Omega.{arith}
 use Rattle.octets.specs.Octets.{xor}
-use Rattle.states.proofs.ByColumns.{add-law}
+use Rattle.aes_state.proofs.ByColumns.{add-law}
 use borrow.Author.Needs.{needs}
 use Rattle.aes_rounds_inverse.proofs.loops.add_round_key.Statement.{statement}
 use Rattle.aes_rounds_inverse.proofs.loops.add_round_key.Tie as tie

@@ -3,9 +3,9 @@ use mathlib.Core.Path.{_≡_, refl, sym, ap, _∙_}
 use native.Mathlib.Omega.{arith}
 use borrow.Author.Needs.{needs}
 use Rattle.octets.specs.Words.{bytesOf}
-use Rattle.sbox.specs.Sbox.{invSBox}
-use Rattle.fips197.specs.State.{aes}
-use Rattle.fips197.specs.Equivalent.{eqRounds}
+use Rattle.aes_sbox.specs.Sbox.{invSBox}
+use Rattle.aes_spec.specs.State.{aes}
+use Rattle.aes_spec.specs.Equivalent.{eqRounds}
 use Rattle.aes_rounds_inverse.proofs.Rounds.{rounds-none, rounds-next}
 use Rattle.aes_rounds_inverse.proofs.loops.back.Statement.{statement}
 use Rattle.aes_rounds_inverse.proofs.loops.back.Tie as tie

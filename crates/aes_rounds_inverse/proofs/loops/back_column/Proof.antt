@@ -3,9 +3,9 @@ use mathlib.Core.Path.{_≡_, ap, _∙_}
 use native.Mathlib.Omega.{arith}
 use borrow.Author.Needs.{needs}
 use Rattle.octets.specs.Octets.{xor}
-use Rattle.sbox.specs.Sbox.{invSBox}
-use Rattle.mixing.specs.Mixing.{invMixedEntry}
-use Rattle.aes_lookup_rule.proofs.Rows.{rowsOf, rows-none, rows-more}
+use Rattle.aes_sbox.specs.Sbox.{invSBox}
+use Rattle.aes_mix.specs.Mixing.{invMixedEntry}
+use Rattle.aes_model.proofs.Rows.{rowsOf, rows-none, rows-more}
 use Rattle.aes_rounds_inverse.specs.Diagonals.{backFrom}
 use Rattle.aes_rounds_inverse.proofs.Columns.{column-law}
 use Rattle.aes_rounds_inverse.proofs.loops.back_column.Statement.{statement}

@@ -1,8 +1,8 @@
-use Rattle.sbox.specs.Sbox.{invSBox}
-use Rattle.mixing.specs.Mixing.{invMixedEntry}
+use Rattle.aes_sbox.specs.Sbox.{invSBox}
+use Rattle.aes_mix.specs.Mixing.{invMixedEntry}
 use Rattle.aes_lookup_inverse.specs.Table.{inverseEntries}
-use Rattle.aes_lookup_rule.proofs.Back.{inverse-rule, inverse-lt}
-use Rattle.aes_lookup_rule.proofs.Row.{row-law}
+use Rattle.aes_model.proofs.Back.{inverse-rule, inverse-lt}
+use Rattle.aes_model.proofs.Row.{row-law}
 use borrow.Author.Needs.{needs}
 use Rattle.aes_rounds_inverse.proofs.loops.back_row.Statement.{statement}
 use Rattle.aes_rounds_inverse.proofs.loops.back_row.Tie as tie

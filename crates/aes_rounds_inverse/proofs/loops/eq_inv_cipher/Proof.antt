@@ -5,11 +5,11 @@ use lib.ListN.{getD}
 use mir.Syntax.{w8}
 use mir.Val.{Fits}
 use Rattle.octets.specs.Octets.{Octets}
-use Rattle.sbox.specs.Sbox.{invSBox}
-use Rattle.fips197.specs.State.{aes, addRoundKey, invShiftRows, subBytes}
-use Rattle.fips197.specs.Equivalent.{eqInvCipher}
-use Rattle.states.specs.Columns.{blockOf}
-use Rattle.states.proofs.Loaded.{loaded}
+use Rattle.aes_sbox.specs.Sbox.{invSBox}
+use Rattle.aes_spec.specs.State.{aes, addRoundKey, invShiftRows, subBytes}
+use Rattle.aes_spec.specs.Equivalent.{eqInvCipher}
+use Rattle.aes_state.specs.Columns.{blockOf}
+use Rattle.aes_state.proofs.Loaded.{loaded}
 use borrow.Author.Needs.{needs}
 use Rattle.aes_rounds_inverse.proofs.loops.eq_inv_cipher.Statement.{statement}
 use Rattle.aes_rounds_inverse.proofs.loops.eq_inv_cipher.Tie as tie

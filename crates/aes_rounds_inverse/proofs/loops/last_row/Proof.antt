@@ -1,7 +1,7 @@
-use Rattle.sbox.specs.Sbox.{invSBox}
+use Rattle.aes_sbox.specs.Sbox.{invSBox}
 use Rattle.aes_lookup_inv_sbox.specs.Table.{invSBoxBytes}
-use Rattle.aes_lookup_rule.proofs.Back.{inv-sub-rule}
-use Rattle.aes_lookup_rule.proofs.Row.{last-row-law}
+use Rattle.aes_model.proofs.Back.{inv-sub-rule}
+use Rattle.aes_model.proofs.Row.{last-row-law}
 use borrow.Author.Needs.{needs}
 use Rattle.aes_rounds_inverse.proofs.loops.last_row.Statement.{statement}
 use Rattle.aes_rounds_inverse.proofs.loops.last_row.Tie as tie

@@ -1,0 +1,21 @@
+-- From the two schedules to what a start is to give. Assumes nothing.
+use mathlib.Core.Path.{_≡_, sym, _∙_}
+use mathlib.Core.Bool.{true, false}
+use mathlib.Core.List.{List}
+use Prim.Native.Nat.{ℕ}
+use Rattle.aes_sbox.specs.Sbox.{sBox}
+use Rattle.aes_schedule.specs.Schedule.{scheduleOf}
+use Rattle.aes_schedule.specs.declared.Expanded.{Expanded}
+use Rattle.aes_schedule.specs.declared.KeyAnswer.the-variants.{Taken, KeyLength}
+use Rattle.image_spec.specs.Lent.{bothTaken}
+use Rattle.image_reader.specs.Calls.{noSchedule, startWith, startOf}
+use Rattle.image_reader.specs.declared.ReadStarted.{ReadStarted}
+
+module _ (ekey ckey : List ℕ) (e c : Expanded) (enc-is : e ≡ scheduleOf sBox ekey) (chk-is : c ≡ scheduleOf sBox ckey) where
+  pub start-taken : (x : ReadStarted) → bothTaken e c ≡ true → x ≡ startWith Taken (e .schedule) (c .schedule) → x ≡ startOf ekey ckey
+  unfolding startOf
+  start-taken x b ex = ex ∙ sym (rw (← enc-is, ← chk-is, b))
+
+  pub start-refused : (x : ReadStarted) → bothTaken e c ≡ false → x ≡ startWith KeyLength noSchedule noSchedule → x ≡ startOf ekey ckey
+  unfolding startOf
+  start-refused x b ex = ex ∙ sym (rw (← enc-is, ← chk-is, b))
