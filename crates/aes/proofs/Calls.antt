@@ -10,7 +10,7 @@ use Rattle.aes_schedule.specs.Schedule.{scheduleOf, answerOf}
 use Rattle.aes_schedule.specs.declared.KeyAnswer.{KeyAnswer}
 use Rattle.aes_schedule.proofs.Laws.{put-schedule, schedule-length}
 use Rattle.aes_spec.specs.Cipher.{encryptBlock}
-use Rattle.aes_spec.specs.Equivalent.{inverseWords, eqDecryptBlock}
+use Rattle.aes_spec.specs.Model.{inverseWords, eqDecryptBlock}
 use Rattle.aes_spec.proofs.Equivalent.{eq-decrypt}
 use Rattle.aes.specs.declared.Ciphered.{Ciphered}
 use Rattle.aes.specs.Calls.{encryptUnder, decryptUnder}

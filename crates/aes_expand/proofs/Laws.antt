@@ -11,9 +11,9 @@ use lib.Seq.{drop-cons, set-at, drop-append-add, drop-drop, drop-nil}
 use Rattle.octets.specs.Octets.{xor, padTo, over}
 use Rattle.field.specs.Field.{xPower}
 use Rattle.octets.proofs.Words.{byte-lt}
-use Rattle.octets.specs.Words.{byte}
+use Rattle.octets.specs.Words.{byte, wordAt}
 use Rattle.aes_words.specs.Columns.{rotWord, diagonal}
-use Rattle.aes_expand.specs.Expansion.{rCon, keyWord, temp, nextWord, keyExpansion, expandedOver, firstTemp, laterTemp}
+use Rattle.aes_expand.specs.Expansion.{rCon, temp, nextWord, keyExpansion, expandedOver, firstTemp, laterTemp}
 
 pub quotient-pos : {i nk : ℕ} → 0 < nk → nk ≤ i → 0 < i / nk
 quotient-pos {i} {nk} p h = le-div-iff-mul-le p .1 (rw (one-mul nk) h)
@@ -58,7 +58,7 @@ module _ (sub : ℕ → ℕ) (key : List ℕ) (nk : ℕ) where
       rw (length-expansion i, length-expansion j) (ap (λ (l : List ℕ). keyExpansion sub key nk i ++ l) f)
 
   -- a word of the key, and a word past it
-  pub next-key : (w : List ℕ) (i : ℕ) → i < nk → nextWord sub key nk w i ≡ keyWord key i
+  pub next-key : (w : List ℕ) (i : ℕ) → i < nk → nextWord sub key nk w i ≡ wordAt key (i * 4)
   unfolding nextWord
   next-key w i h = rw (lt-ltb i nk h)
 

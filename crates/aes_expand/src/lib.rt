@@ -3,11 +3,13 @@ use aes_words::join;
 use aes_words::rot_word;
 use aes_words::sub_word;
 use field::double;
+use octets_slice::smaller;
 ghost use mathlib.Core.Path.{_≡_};
 ghost use Prim.Native.Nat.{_+_, _*_, _≤_, _<_, min};
 ghost use lib.ListN.{length};
 ghost use Rattle.octets.specs.Octets.{over, entry};
-ghost use Rattle.aes_expand.specs.Expansion.{firstTemp, laterTemp, keyWord, keyExpansion, expandedOver};
+ghost use Rattle.octets.specs.Words.{wordAt};
+ghost use Rattle.aes_expand.specs.Expansion.{firstTemp, laterTemp, keyExpansion, expandedOver};
 
 // The first n words of the expansion of a key of nk words, with the S-box lent, in the place of the first that a slice has. It stays as it
 // is where the key has fewer words, nk is 0 or there is no room for n.
@@ -31,14 +33,14 @@ fn words_into(sbox: &[u8; 256], key: &[u8], nk: usize, n: usize, words: &mut [u3
     requires { ⌜ (0 < nk) × ((nk * 4 ≤ length (now key)) × (n ≤ length (now words))) ⌝ }
     ensures { λ _. ⌜ now (words .exit) ≡ over (keyExpansion (entry (now (sbox .entry))) (now (key .entry)) nk n) (now (words .entry)) ⌝ }
 {
-    let head = shorter(nk, n);
+    let head = smaller(nk, n);
     for i in 0..head {
         words[i] = key_word(key, i);
     }
     let mut constant: u8 = 1;
     let mut i = nk;
     while i < n {
-        let size = shorter(nk, n - i);
+        let size = smaller(nk, n - i);
         let mut t = words[i - nk] ^ first_temp(sbox, constant, words[i - 1]);
         words[i] = t;
         for m in 1..size {
@@ -50,15 +52,9 @@ fn words_into(sbox: &[u8; 256], key: &[u8], nk: usize, n: usize, words: &mut [u3
     }
 }
 
-fn shorter(a: usize, b: usize) -> usize
-    ensures { λ r. ⌜ r ≡ min a b ⌝ }
-{
-    if a < b { a } else { b }
-}
-
 fn key_word(key: &[u8], i: usize) -> u32
     requires { ⌜ i * 4 + 4 ≤ length (now key) ⌝ }
-    ensures { λ r. ⌜ r ≡ keyWord (now (key .entry)) i ⌝ }
+    ensures { λ r. ⌜ r ≡ wordAt (now (key .entry)) (i * 4) ⌝ }
 {
     join(key[i * 4], key[i * 4 + 1], key[i * 4 + 2], key[i * 4 + 3])
 }

@@ -1,8 +1,8 @@
 // The inverse S-box by a lookup.
 ghost use mathlib.Core.Path.{_≡_};
 ghost use Rattle.octets.specs.Octets.{entry};
-ghost use Rattle.octets.specs.Arms.{arm};
-ghost use Rattle.aes_lookup_inv_sbox.specs.Table.{invSBoxBytes};
+ghost use Rattle.octets.specs.Model.{arm};
+ghost use Rattle.aes_lookup_inv_sbox.specs.Model.{invSBoxBytes};
 
 // A `match` with an arm for each number is compiled to a table in read-only memory, and where it is called from one place it is inlined there.
 // The arms start at 256: from 0 on the compiler narrows the index and adds an instruction a lookup.

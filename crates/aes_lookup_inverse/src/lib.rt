@@ -1,8 +1,8 @@
 // What a byte, through the inverse S-box, adds to a column mixed back: a word of four bytes, twice in a row, so that a shift turns it.
 ghost use mathlib.Core.Path.{_≡_};
 ghost use Rattle.octets.specs.Octets.{entry};
-ghost use Rattle.octets.specs.Arms.{arm, twice};
-ghost use Rattle.aes_lookup_inverse.specs.Table.{inverseEntries};
+ghost use Rattle.octets.specs.Model.{arm, twice};
+ghost use Rattle.aes_lookup_inverse.specs.Model.{inverseEntries};
 
 // A `match` with an arm for each number is compiled to a table in read-only memory, and where it is called from one place it is inlined there.
 // The arms start at 256: from 0 on the compiler narrows the index and adds an instruction a lookup.

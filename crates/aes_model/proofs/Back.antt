@@ -11,8 +11,8 @@ use Rattle.aes_sbox.specs.Sbox.{invSBox}
 use Rattle.aes_sbox.proofs.Lists.{invSBoxTable}
 use Rattle.aes_sbox.proofs.Laws.{invSBox-rule}
 use Rattle.aes_mix.specs.Mixing.{row, column, invMixColumn, invMixedEntry}
-use Rattle.aes_lookup_inverse.specs.Table.{inverseEntries}
-use Rattle.aes_lookup_inv_sbox.specs.Table.{invSBoxBytes}
+use Rattle.aes_lookup_inverse.specs.Model.{inverseEntries}
+use Rattle.aes_lookup_inv_sbox.specs.Model.{invSBoxBytes}
 
 is-inv-mixed : ℕ → ℕ → Bool
 is-inv-mixed k x = eqb x (invMixedEntry (entry invSBoxBytes) k)

@@ -11,8 +11,8 @@ use Rattle.aes_sbox.specs.Sbox.{sBox}
 use Rattle.aes_sbox.proofs.Lists.{sBoxTable}
 use Rattle.aes_sbox.proofs.Laws.{sBox-rule}
 use Rattle.aes_mix.specs.Mixing.{row, column, mixColumn, mixedEntry}
-use Rattle.aes_lookup_forward.specs.Table.{forwardEntries}
-use Rattle.aes_lookup_sbox.specs.Table.{sBoxBytes}
+use Rattle.aes_lookup_forward.specs.Model.{forwardEntries}
+use Rattle.aes_lookup_sbox.specs.Model.{sBoxBytes}
 
 is-mixed : ℕ → ℕ → Bool
 is-mixed k x = eqb x (mixedEntry (entry sBoxBytes) k)

@@ -9,7 +9,7 @@ use Rattle.octets.proofs.Words.{byte-lt}
 use Rattle.octets.proofs.Arms.{arm-within}
 use Rattle.aes_words.proofs.Rotate.{rot-one-code, rot-two-code, rot-three-code}
 use Rattle.aes_model.specs.Turned.{turned}
-use Rattle.octets.specs.Arms.{arm, twice}
+use Rattle.octets.specs.Model.{arm, twice}
 
 low : (p q : ℕ) → q < 4294967296 → (p * 4294967296 + q) % 4294967296 ≡ q
 low p q h = omega arith

@@ -7,7 +7,7 @@ use Rattle.aes_sbox.proofs.Laws.{sBox-lt}
 use Rattle.aes_mix.specs.Mixing.{mixColumn, mixedEntry}
 use Rattle.aes_mix.proofs.Spin.{sub-mix-column-mixes}
 use Rattle.aes_model.proofs.Rows.{rowsOf, rows-all}
-use Rattle.aes_rounds.specs.Diagonals.{from, subShifted}
+use Rattle.aes_rounds.specs.Model.{from, subShifted}
 
 pub column-law : (t : List ℕ) (j : ℕ) → rowsOf (mixedEntry sBox) (from t j) 4 ≡ mixColumn (subShifted t j)
 column-law t j =

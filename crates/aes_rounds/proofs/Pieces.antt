@@ -1,13 +1,13 @@
 -- A block and a piece of a list added up, in words and in bytes. Assumes nothing.
 use mathlib.Core.Path.{_≡_, refl, sym, ap, ap₂, _∙_}
-use mathlib.Core.Bool.{Bool, true, false}
+use mathlib.Core.Bool.{Bool, true, false, cond}
 use mathlib.Core.List.{List, [], _∷_}
 use Prim.Native.Nat.{ℕ, zero, suc, _+_, _≤_, _<_}
 use native.Mathlib.Nat.{add-zero}
 use native.Mathlib.Omega.{arith}
 use lib.ListN.{length, getD, take, drop, replicate, length-take, length-drop}
 use lib.Seq.{getD-take, getD-drop}
-use Rattle.octets.specs.Octets.{xor, choose, tabulate, Octets}
+use Rattle.octets.specs.Octets.{xor, tabulate, Octets}
 use Rattle.octets.specs.Words.{word, byte, wordAt, bytesOf}
 use Rattle.octets.specs.Blocks.{_⊕_}
 use Rattle.octets.proofs.Words.{byte-xor}

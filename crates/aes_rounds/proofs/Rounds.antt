@@ -15,7 +15,7 @@ use Rattle.aes_spec.specs.State.{aes, subBytes, shiftRows, mixColumns, addRound
 use Rattle.aes_spec.specs.Cipher.{oneRound, rounds}
 use Rattle.aes_state.proofs.Keyed.{words-four, substituted, keyed, keyed-law}
 use Rattle.aes_state.proofs.ByColumns.{four, sub-shift-law, mix-law}
-use Rattle.aes_rounds.specs.Diagonals.{from, subShifted}
+use Rattle.aes_rounds.specs.Model.{from, subShifted}
 
 -- substituted and shifted, all four columns
 pub shifted-law : (t : List ℕ) → length t ≡ 4

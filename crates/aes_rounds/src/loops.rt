@@ -4,7 +4,7 @@ use aes_lookup_sbox::sub_at;
 use aes_schedule::RoundKeyNumber;
 use aes_state::Columns;
 use aes_state::as_columns;
-use aes_state::load;
+use aes_state::columns_of;
 ghost use mathlib.Core.Path.{_≡_};
 ghost use Prim.Native.Nat.{_-_, _<_};
 ghost use Rattle.octets.specs.Words.{byte, bytesOf};
@@ -12,16 +12,16 @@ ghost use Rattle.aes_sbox.specs.Sbox.{sBox};
 ghost use Rattle.aes_mix.specs.Mixing.{mixColumn, mixedEntry};
 ghost use Rattle.aes_spec.specs.State.{aes, addRoundKey, shiftRows, subBytes};
 ghost use Rattle.aes_spec.specs.Cipher as spec;
-ghost use Rattle.aes_state.specs.Columns.{blockOf};
+ghost use Rattle.aes_state.specs.Model.{blockOf};
 ghost use Rattle.aes_model.specs.Turned.{turned};
-ghost use Rattle.aes_rounds.specs.Diagonals.{subShifted};
+ghost use Rattle.aes_rounds.specs.Model.{subShifted};
 
 pub fn cipher(words: &[u32; 60], rounds: usize, s: Columns) -> Columns
     requires { ⌜ (0 < rounds) × (rounds < 15) ⌝ }
     ensures { λ r. ⌜ blockOf r ≡ spec.cipher aes sBox (now (words .entry)) rounds (blockOf s) ⌝ }
 {
     let last = last_bytes(forth(words, rounds, s));
-    as_columns(add_round_key(words, RoundKeyNumber(rounds), load(last)))
+    as_columns(add_round_key(words, RoundKeyNumber(rounds), columns_of(last)))
 }
 
 // All rounds but the last.

@@ -7,7 +7,7 @@ use Rattle.aes_sbox.proofs.Laws.{invSBox-lt}
 use Rattle.aes_mix.specs.Mixing.{invMixColumn, invMixedEntry}
 use Rattle.aes_mix.proofs.Spin.{sub-mix-column-mixes-back}
 use Rattle.aes_model.proofs.Rows.{rowsOf, rows-all}
-use Rattle.aes_rounds_inverse.specs.Diagonals.{backFrom, invSubShifted}
+use Rattle.aes_rounds_inverse.specs.Model.{backFrom, invSubShifted}
 
 pub column-law : (t : List ℕ) (j : ℕ) → rowsOf (invMixedEntry invSBox) (backFrom t j) 4 ≡ invMixColumn (invSubShifted t j)
 column-law t j =

@@ -12,10 +12,10 @@ use Rattle.aes_sbox.specs.Sbox.{invSBox}
 use Rattle.aes_sbox.proofs.Laws.{invSBox-lt}
 use Rattle.aes_mix.specs.Mixing.{invMixColumn}
 use Rattle.aes_spec.specs.State.{aes, subBytes, invShiftRows, invMixColumns, addRoundKey}
-use Rattle.aes_spec.specs.Equivalent.{eqRound, eqRounds}
+use Rattle.aes_spec.specs.Model.{eqRound, eqRounds}
 use Rattle.aes_state.proofs.Keyed.{words-four, substituted, keyed, keyed-law}
 use Rattle.aes_state.proofs.ByColumns.{four, inv-sub-shift-law, inv-mix-law}
-use Rattle.aes_rounds_inverse.specs.Diagonals.{backFrom, invSubShifted}
+use Rattle.aes_rounds_inverse.specs.Model.{backFrom, invSubShifted}
 
 -- substituted and shifted back, all four columns
 pub shifted-law : (t : List ℕ) → length t ≡ 4

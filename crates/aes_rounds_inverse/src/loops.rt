@@ -4,24 +4,24 @@ use aes_lookup_inverse::inverse_at;
 use aes_schedule::RoundKeyNumber;
 use aes_state::Columns;
 use aes_state::as_columns;
-use aes_state::load;
+use aes_state::columns_of;
 ghost use mathlib.Core.Path.{_≡_};
 ghost use Prim.Native.Nat.{_-_, _<_};
 ghost use Rattle.octets.specs.Words.{byte, bytesOf};
 ghost use Rattle.aes_sbox.specs.Sbox.{invSBox};
 ghost use Rattle.aes_mix.specs.Mixing.{invMixColumn, invMixedEntry};
 ghost use Rattle.aes_spec.specs.State.{aes, addRoundKey, invShiftRows, subBytes};
-ghost use Rattle.aes_spec.specs.Equivalent as spec;
-ghost use Rattle.aes_state.specs.Columns.{blockOf};
+ghost use Rattle.aes_spec.specs.Model as spec;
+ghost use Rattle.aes_state.specs.Model.{blockOf};
 ghost use Rattle.aes_model.specs.Turned.{turned};
-ghost use Rattle.aes_rounds_inverse.specs.Diagonals.{invSubShifted};
+ghost use Rattle.aes_rounds_inverse.specs.Model.{invSubShifted};
 
 pub fn eq_inv_cipher(words: &[u32; 60], rounds: usize, s: Columns) -> Columns
     requires { ⌜ (0 < rounds) × (rounds < 15) ⌝ }
     ensures { λ r. ⌜ blockOf r ≡ spec.eqInvCipher aes invSBox (now (words .entry)) rounds (blockOf s) ⌝ }
 {
     let last = last_bytes(back(words, rounds, s));
-    as_columns(add_round_key(words, RoundKeyNumber(0), load(last)))
+    as_columns(add_round_key(words, RoundKeyNumber(0), columns_of(last)))
 }
 
 // All rounds but the last, counted down.

@@ -1,16 +1,16 @@
 -- Each table is what its rule says, by one test over it; each table undoes the other. Assumes nothing.
 use mathlib.Core.Path.{_≡_, refl, sym, ap, _∙_}
-use mathlib.Core.Bool.{Bool, true, false, _&&_}
+use mathlib.Core.Bool.{Bool, true, false, _&&_, cond}
 use Prim.Native.Nat.{ℕ, zero, suc, _+_, _-_, _*_, _/_, _%_, _^_, _<_}
 use native.Mathlib.Nat.{zero-mul, one-mul, add-mul, pow-suc}
 use native.Mathlib.Omega.{arith}
 use borrow.Author.Tests.{eqb-true, eqb-false, ne-eqb}
 use lib.Dec.{eqb, ltb, eqb→eq, ltb→lt}
-use Rattle.octets.specs.Octets.{choose, xor, tabulate, entry}
+use Rattle.octets.specs.Octets.{xor, tabulate, entry}
 use Rattle.octets.proofs.Tests.{both-left, both-right, at-each, below, on-bytes}
 use Rattle.octets.proofs.Fill.{is-tabulate, getD-tabulate}
-use Rattle.field_log.specs.Tables.{lTable}
-use Rattle.field_exp.specs.Tables.{eTable}
+use Rattle.field_log.specs.Model.{lTable}
+use Rattle.field_exp.specs.Model.{eTable}
 use Rattle.field.specs.Field.{xTimes, productWithin, _•_}
 use Rattle.field.specs.Logarithms.{E, L}
 use Rattle.field.proofs.Logarithms.{zero-product, E-sum, E-rule, E-around, E-turns, L-rule, L-lt, E-of-L}
@@ -30,7 +30,7 @@ power-E (suc n) l (suc e) h = by (eqb (suc e % 2) 0) refl (ap square (power-E n 
     d = suc e / 2
 
     by : (t : Bool) → eqb (suc e % 2) 0 ≡ t → square (powerWithin n (E l) d) ≡ E ((d + d) * l)
-        → choose t (square (powerWithin n (E l) d)) (square (powerWithin n (E l) d) • E l) ≡ E (suc e * l)
+        → cond t (square (powerWithin n (E l) d)) (square (powerWithin n (E l) d) • E l) ≡ E (suc e * l)
     by true q twice = let z : suc e % 2 ≡ 0 = eqb-true (suc e % 2) 0 q in twice ∙ ap (λ (x : ℕ). E (x * l)) (omega arith)
     by false q twice =
         let z : suc e % 2 ≡ 0 → ⊥ = eqb-false (suc e % 2) 0 q in
@@ -39,7 +39,7 @@ power-E (suc n) l (suc e) h = by (eqb (suc e % 2) 0) refl (ap square (power-E n 
 
 -- the inverse of a power of 03, from the tables
 inverseAt : ℕ → ℕ
-inverseAt k = choose (eqb k 0) 0 (entry eTable (255 - entry lTable k))
+inverseAt k = cond (eqb k 0) 0 (entry eTable (255 - entry lTable k))
 
 inverse-E : (l : ℕ) → inverse (E l) ≡ E (254 * l)
 unfolding inverse
@@ -61,7 +61,7 @@ inverse-at (suc k) h =
     ∙ sym (E-rule (255 - l) (omega arith)) ∙ ap (λ (x : ℕ). entry eTable (255 - x)) (sym (L-rule (suc k) h)))
 
 -- the product with the inverse is 1 for every byte but 0
-pub inverse-rule : (k : ℕ) → k < 256 → k • inverse k ≡ choose (eqb k 0) 0 1
+pub inverse-rule : (k : ℕ) → k < 256 → k • inverse k ≡ cond (eqb k 0) 0 1
 unfolding E
 inverse-rule zero h = zero-product (inverse 0) (omega (arith, inverse-0))
 inverse-rule (suc k) h =

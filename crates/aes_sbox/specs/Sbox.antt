@@ -1,8 +1,8 @@
 -- The S-box of FIPS 197, 5.1.1: the inverse in the field, then the affine map; and the way back, 5.3.2.
 -- Assumes nothing: these are definitions.
+use mathlib.Core.Bool.{cond}
 use Prim.Native.Nat.{ℕ, zero, suc, _+_, _*_, _/_, _%_, _^_}
 use lib.Dec.{eqb}
-use Rattle.octets.specs.Octets.{choose}
 use Rattle.field.specs.Field.{_•_}
 
 unfoldable pub square : ℕ → ℕ
@@ -13,7 +13,7 @@ unfoldable pub powerWithin : ℕ → ℕ → ℕ → ℕ
 powerWithin zero a e = 1
 powerWithin (suc n) a zero = 1
 powerWithin (suc n) a (suc e) =
-    choose (eqb (suc e % 2) 0)
+    cond (eqb (suc e % 2) 0)
     (square (powerWithin n a (suc e / 2)))
     (square (powerWithin n a (suc e / 2)) • a)
 

@@ -1,13 +1,13 @@
 -- The schedule under two substitutions that agree on bytes. Assumes nothing.
 use mathlib.Core.Path.{_≡_, refl, sym, ap, _∙_}
-use mathlib.Core.Bool.{Bool, true, false}
+use mathlib.Core.Bool.{Bool, true, false, cond}
 use mathlib.Core.List.{List}
 use Prim.Native.Nat.{ℕ, _+_, _*_, _≤_, _<_}
 use native.Mathlib.Omega.{arith}
 use borrow.Author.Tests.{eqb-true}
 use lib.Dec.{eqb}
 use lib.ListN.{length, replicate}
-use Rattle.octets.specs.Octets.{choose, tabulate, padTo, entry}
+use Rattle.octets.specs.Octets.{tabulate, padTo, entry}
 use Rattle.octets.proofs.Fill.{length-padTo}
 use Rattle.aes_sbox.proofs.Laws.{entry-table}
 use Rattle.aes_expand.proofs.Laws.{length-expansion, expansion-same, expanded-over, over-zeros}
@@ -37,7 +37,7 @@ pub rounds-lt : (n : ℕ) → keySize n .rounds < 15
 rounds-lt n = on (eqb n 16) (eqb n 24) (eqb n 32)
   where
     on : (a b c : Bool)
-        → choose a (size 4 10) (choose b (size 6 12) (choose c (size 8 14) (size 0 0))) .rounds < 15
+        → cond a (size 4 10) (cond b (size 6 12) (cond c (size 8 14) (size 0 0))) .rounds < 15
     on true b c = omega arith
     on false true c = omega arith
     on false false true = omega arith
@@ -88,7 +88,7 @@ schedule-length sub key = on (eqb (length key) 16) (eqb (length key) 24) (eqb (l
     sixty nk n h = length-padTo 60 (keyExpansion sub key nk n) (rw (length-expansion sub key nk n) h)
 
     on : (a b c : Bool)
-        → length (choose a (taken sub key 4 10) (choose b (taken sub key 6 12) (choose c (taken sub key 8 14) refused)) .schedule .words) ≡ 60
+        → length (cond a (taken sub key 4 10) (cond b (taken sub key 6 12) (cond c (taken sub key 8 14) refused)) .schedule .words) ≡ 60
     on true b c = sixty 4 44 (omega arith)
     on false true c = sixty 6 52 (omega arith)
     on false false true = sixty 8 60 (omega arith)

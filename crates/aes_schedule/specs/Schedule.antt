@@ -1,11 +1,11 @@
 -- The key schedule of a key of FIPS 197, 5.2, over any substitution `sub` of bytes: the standard's is at `sBox`.
 -- Nk is the number of words of the key, Nr that of rounds. Assumes nothing: these are definitions.
 use Prim.Native.Nat.{ℕ, _+_, _*_, _%_}
-use mathlib.Core.Bool.{Bool, _||_}
+use mathlib.Core.Bool.{Bool, _||_, cond}
 use mathlib.Core.List.{List}
 use lib.Dec.{eqb}
 use lib.ListN.{length, replicate}
-use Rattle.octets.specs.Octets.{choose, padTo}
+use Rattle.octets.specs.Octets.{padTo}
 use Rattle.aes_expand.specs.Expansion.{keyExpansion}
 use Rattle.aes_schedule.specs.declared.KeyAnswer.{KeyAnswer}
 use Rattle.aes_schedule.specs.declared.KeyAnswer.the-variants.{Taken, KeyLength}
@@ -25,9 +25,9 @@ refused = record { answer = KeyLength; schedule = record { words = replicate 60 
 -- Nk and Nr for each length of a key (table 3); any other length is refused
 unfoldable pub scheduleOf : (ℕ → ℕ) → List ℕ → Expanded
 scheduleOf sub key =
-    choose (eqb (length key) 16) (taken sub key 4 10)
-    (choose (eqb (length key) 24) (taken sub key 6 12)
-    (choose (eqb (length key) 32) (taken sub key 8 14) refused))
+    cond (eqb (length key) 16) (taken sub key 4 10)
+    (cond (eqb (length key) 24) (taken sub key 6 12)
+    (cond (eqb (length key) 32) (taken sub key 8 14) refused))
 
 -- the number of each answer (docs/REFUSALS.md)
 abbrev pub keyNumber : KeyAnswer → ℕ
@@ -47,10 +47,10 @@ firstWord n = n * 4 % 18446744073709551616
 -- Nk and Nr for each length of a key, zeros for any other
 abbrev pub keySize : ℕ → KeySize
 keySize n =
-    choose (eqb n 16) (record { words = 4; rounds = 10 })
-    (choose (eqb n 24) (record { words = 6; rounds = 12 })
-    (choose (eqb n 32) (record { words = 8; rounds = 14 }) (record { words = 0; rounds = 0 })))
+    cond (eqb n 16) (record { words = 4; rounds = 10 })
+    (cond (eqb n 24) (record { words = 6; rounds = 12 })
+    (cond (eqb n 32) (record { words = 8; rounds = 14 }) (record { words = 0; rounds = 0 })))
 
 -- the answer for a key, by its number of rounds
 abbrev pub answerOf : ℕ → KeyAnswer
-answerOf nr = choose (eqb nr 0) KeyLength Taken
+answerOf nr = cond (eqb nr 0) KeyLength Taken

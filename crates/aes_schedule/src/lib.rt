@@ -2,6 +2,8 @@
 use aes_expand::expand_into;
 use aes_sbox::table;
 ghost use mathlib.Core.Path.{_≡_};
+ghost use mathlib.Core.Bool.{_&&_};
+ghost use lib.Dec.{eqb};
 ghost use Rattle.aes_sbox.specs.Sbox.{sBox};
 ghost use Rattle.aes_schedule.specs.Schedule.{scheduleOf, keyNumber, roundCount, firstWord, keySize, answerOf};
 
@@ -142,4 +144,17 @@ pub fn is_round_count(n: usize) -> bool
         return true;
     }
     n == KeySchedule::ROUNDS_32
+}
+
+// Whether a call may go on with the encryption key and the check key that it was given.
+pub fn both_taken(ekey: KeyAnswer, ckey: KeyAnswer) -> bool
+    ensures { λ r. ⌜ r ≡ eqb (keyNumber ekey) 0 && eqb (keyNumber ckey) 0 ⌝ }
+{
+    let KeyAnswer::Taken = ekey else {
+        return false;
+    };
+    let KeyAnswer::Taken = ckey else {
+        return false;
+    };
+    true
 }

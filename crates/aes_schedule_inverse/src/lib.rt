@@ -5,7 +5,7 @@ use aes_schedule::is_round_count;
 ghost use mathlib.Core.Path.{_≡_};
 ghost use Prim.Native.Nat.{_≤_};
 ghost use lib.ListN.{length};
-ghost use Rattle.aes_spec.specs.Equivalent.{mixedBack, inverseWords};
+ghost use Rattle.aes_spec.specs.Model.{mixedBack, inverseWords};
 
 // In place of the schedule for the way forth; that stays where no key gives so many rounds.
 pub fn invert(words: &mut [u32; 60], rounds: usize)

@@ -1,12 +1,12 @@
 -- AES is a lawful block cipher under every key that is taken. Assumes nothing.
 use mathlib.Core.Path.{_≡_, refl}
-use mathlib.Core.Bool.{Bool, true, false}
+use mathlib.Core.Bool.{Bool, true, false, cond}
 use mathlib.Core.List.{List}
 use Prim.Native.Nat.{ℕ}
 use native.Mathlib.Omega.{arith}
 use lib.Dec.{eqb}
 use lib.ListN.{length}
-use Rattle.octets.specs.Octets.{choose, Octets}
+use Rattle.octets.specs.Octets.{Octets}
 use Rattle.octets.specs.Blocks.{Lawful}
 use Rattle.aes_sbox.specs.Sbox.{sBox, invSBox}
 use Rattle.aes_sbox.proofs.Laws.{sBox-lt, invSBox-lt, invSBox-sBox, sBox-invSBox}
@@ -46,7 +46,7 @@ unfolding scheduleOf taken refused
 key-rounds key = each (eqb (length key) 16) (eqb (length key) 24) (eqb (length key) 32)
   where
     made : Bool → Bool → Bool → Expanded
-    made a b c = choose a (taken sBox key 4 10) (choose b (taken sBox key 6 12) (choose c (taken sBox key 8 14) refused))
+    made a b c = cond a (taken sBox key 4 10) (cond b (taken sBox key 6 12) (cond c (taken sBox key 8 14) refused))
 
     each : (a b c : Bool) → keyNumber (made a b c .answer) ≡ 0 → roundCount (made a b c .schedule .rounds) ≡ true
     each true b c e = refl

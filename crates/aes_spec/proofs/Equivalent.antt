@@ -1,7 +1,7 @@
 -- Over round keys that are mixed back, the equivalent inverse cipher is the inverse cipher: for any shape, any substitution of bytes,
 -- any schedule and any number of rounds from 1 on. Assumes nothing.
 use mathlib.Core.Path.{_≡_, refl, sym, ap, ap₂, _∙_}
-use mathlib.Core.Bool.{Bool, true, false, _&&_}
+use mathlib.Core.Bool.{Bool, true, false, _&&_, cond}
 use mathlib.Core.List.{List}
 use mathlib.Core.Logic.{_⊎_, inl, inr, ⊎-elim}
 use Prim.Native.Nat.{ℕ, zero, suc, _+_, _-_, _*_, _%_, _≤_, _<_, min}
@@ -11,7 +11,7 @@ use borrow.Author.Tests.{lt-ltb, le-ltb, le-leb, lt-leb}
 use lib.Dec.{leb, ltb}
 use lib.ListN.{length, getD, set, replicate, length-set}
 use lib.Seq.{getD-set-same, getD-set-other}
-use Rattle.octets.specs.Octets.{xor, choose, tabulate, Octets}
+use Rattle.octets.specs.Octets.{xor, tabulate, Octets}
 use Rattle.octets.specs.Words.{word, byte}
 use Rattle.octets.specs.Blocks.{BlockCipher}
 use Rattle.octets.proofs.Xor.{lt-or-le}
@@ -25,7 +25,7 @@ use Rattle.aes_sbox.proofs.Laws.{invSBox-lt}
 use Rattle.aes_schedule.specs.Schedule.{roundCount}
 use Rattle.aes_spec.specs.State.{Shape, aes, at, state, mixAt, subBytes, invShiftRows, invMixColumns, addRoundKey}
 use Rattle.aes_spec.specs.Cipher.{invRound, invRounds, invCipher, decryptBlock, standard}
-use Rattle.aes_spec.specs.Equivalent.{mixedBackAt, mixedBack, equivalentWords, eqRound, eqRounds, eqInvCipher, eqDecryptBlock, inverseWords, equivalentCipher}
+use Rattle.aes_spec.specs.Model.{mixedBackAt, mixedBack, equivalentWords, eqRound, eqRounds, eqInvCipher, eqDecryptBlock, inverseWords, equivalentCipher}
 use Rattle.aes_spec.proofs.State.{Block, at-state, is-state, addAt, add-block, inv-shift-block, inv-mix-block, sub-block}
 use Rattle.aes_spec.proofs.Undo.{by-row, inv-round-block, inv-rounds-block}
 use Rattle.aes_spec.proofs.Rounds.{round-count}
@@ -42,7 +42,7 @@ module _ (a b : ℕ) (w : List ℕ) (i : ℕ) where
   pub mixed-after : b ≤ i → mixedBackAt a b w i ≡ getD w i 0
   mixed-after h = by (leb a i)
     where
-      by : (t : Bool) → choose (t && ltb i b) (invMixColumn (getD w i 0)) (getD w i 0) ≡ getD w i 0
+      by : (t : Bool) → cond (t && ltb i b) (invMixColumn (getD w i 0)) (getD w i 0) ≡ getD w i 0
       by true = rw (le-ltb i b h)
       by false = refl
 
@@ -184,7 +184,7 @@ unfolding eqDecryptBlock decryptBlock inverseWords
 eq-decrypt inv lt w e nr {b} o = on (roundCount nr) refl
   where
     on : (k : Bool) → roundCount nr ≡ k
-        → choose k (eqInvCipher aes inv (choose k (equivalentWords aes w nr) w) nr b) (replicate 16 0) ≡ choose k (invCipher aes inv w nr b) (replicate 16 0)
+        → cond k (eqInvCipher aes inv (cond k (equivalentWords aes w nr) w) nr b) (replicate 16 0) ≡ cond k (invCipher aes inv w nr b) (replicate 16 0)
     on true known =
         let r = round-count nr known in
         eq-inv-cipher aes inv lt w (equivalentWords aes w nr) nr (words-back-of aes w nr (r .0) (omega arith)) (r .0) o

@@ -1,9 +1,9 @@
 -- CIPHER and INVCIPHER of FIPS 197, 5.1 and 5.3, over a schedule w of words, and AES as a block cipher.
 -- Assumes nothing: these are definitions.
+use mathlib.Core.Bool.{cond}
 use Prim.Native.Nat.{ℕ, zero, suc, _-_}
 use mathlib.Core.List.{List}
 use lib.ListN.{replicate}
-use Rattle.octets.specs.Octets.{choose}
 use Rattle.octets.specs.Blocks.{BlockCipher}
 use Rattle.aes_sbox.specs.Sbox.{sBox, invSBox}
 use Rattle.aes_schedule.specs.Schedule.{scheduleOf, roundCount}
@@ -41,10 +41,10 @@ invCipher z inv w nr s =
 
 -- under a schedule: sixteen zeros where its number of rounds is none that a key gives
 unfoldable pub encryptBlock : (ℕ → ℕ) → List ℕ → ℕ → List ℕ → List ℕ
-encryptBlock sub w nr b = choose (roundCount nr) (cipher aes sub w nr b) (replicate 16 0)
+encryptBlock sub w nr b = cond (roundCount nr) (cipher aes sub w nr b) (replicate 16 0)
 
 unfoldable pub decryptBlock : (ℕ → ℕ) → List ℕ → ℕ → List ℕ → List ℕ
-decryptBlock inv w nr b = choose (roundCount nr) (invCipher aes inv w nr b) (replicate 16 0)
+decryptBlock inv w nr b = cond (roundCount nr) (invCipher aes inv w nr b) (replicate 16 0)
 
 -- the two as one block cipher
 abbrev pub blockCipher : (sub inv : ℕ → ℕ) → List ℕ → ℕ → BlockCipher

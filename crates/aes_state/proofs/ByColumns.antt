@@ -11,7 +11,7 @@ use Rattle.octets.proofs.Words.{byte-lt, byte-xor, byte0-word, byte1-word, byte
 use Rattle.aes_words.specs.Columns.{IsDiagonal}
 use Rattle.aes_mix.specs.Mixing.{row, column, mixColumn, invMixColumn}
 use Rattle.aes_mix.proofs.Mix.{row-lt}
-use Rattle.aes_state.specs.Columns.{columns}
+use Rattle.aes_state.specs.Model.{columns}
 use Rattle.aes_spec.specs.State.{aes, subBytes, shiftRows, invShiftRows, mixColumns, invMixColumns, addRoundKey}
 
 -- the bytes of four columns

@@ -3,12 +3,12 @@ use aes_words::join;
 use aes_words::word_bytes;
 ghost use mathlib.Core.Path.{_≡_};
 ghost use Rattle.octets.specs.Words.{bytesOf};
-ghost use Rattle.aes_state.specs.Columns.{blockOf, columnsOf};
+ghost use Rattle.aes_state.specs.Model.{blockOf, columnsOf};
 
 // Each column is a word, its first byte the highest.
 pub struct Columns(pub u32, pub u32, pub u32, pub u32);
 
-pub fn load(block: [u8; 16]) -> Columns
+pub fn columns_of(block: [u8; 16]) -> Columns
     ensures { λ r. ⌜ r ≡ columnsOf block ⌝ }
 {
     Columns(
@@ -19,7 +19,7 @@ pub fn load(block: [u8; 16]) -> Columns
     )
 }
 
-pub fn store(s: Columns) -> [u8; 16]
+pub fn block_of(s: Columns) -> [u8; 16]
     ensures { λ r. ⌜ r ≡ blockOf s ⌝ }
 {
     let a = word_bytes(s.0);

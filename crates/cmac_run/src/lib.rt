@@ -4,13 +4,13 @@ mod chain;
 use crate::chain::before_last;
 use crate::chain::chained;
 use aes_rounds::encrypt_block;
-use cmac_subkeys::filled;
 use cmac_subkeys::last;
+use cmac_subkeys::piece_filled;
 use octets_block::xor;
 ghost use mathlib.Core.Path.{_≡_};
 ghost use Prim.Native.Nat.{_-_};
 ghost use Rattle.aes_spec.specs.Cipher.{standard};
-ghost use Rattle.cmac_run.specs.Running as running;
+ghost use Rattle.cmac_run.specs.Model as running;
 
 // The value of the chain, and the bytes that are not in it yet, of which there are up to 16.
 pub struct Run {
@@ -37,7 +37,7 @@ impl Run {
         let chain = self.chain;
         let held = self.held;
         let room = room_after(self.count);
-        let piece = filled(held, self.count, part);
+        let piece = piece_filled(held, self.count, part);
         if part.len() <= room {
             return Run {
                 chain,
@@ -73,7 +73,7 @@ fn run_from(words: &[u32; 60], rounds: usize, chain: [u8; 16], part: &[u8]) -> R
     let n = before_last(part.len());
     let after = chained(words, rounds, chain, n, part);
     let rest = &part[n * 16..];
-    let held = filled([0u8; 16], 0, rest);
+    let held = piece_filled([0u8; 16], 0, rest);
     Run {
         chain: after,
         held,

@@ -1,6 +1,6 @@
 -- A piece filled up from what is held and what comes, the last piece, and a number shifted. Assumes nothing.
 use mathlib.Core.Path.{_≡_, refl, sym, ap, _∙_}
-use mathlib.Core.Bool.{Bool, true, false}
+use mathlib.Core.Bool.{Bool, true, false, cond}
 use mathlib.Core.List.{List, [], _∷_, _++_}
 use Prim.Native.Nat.{ℕ, _+_, _-_, _*_, _/_, _%_, _≤_, _<_}
 use native.Mathlib.Omega.{arith}
@@ -8,7 +8,7 @@ use lib.Dec.{ltb}
 use borrow.Author.Tests.{ltb-true, ltb-false, eq-eqb, ne-eqb}
 use lib.ListN.{length, getD, take, drop, length-append, length-drop, length-take, set, List·getD-append, List·getD-eq-default}
 use lib.Seq.{length-take-le, take-all, getD-take, getD-append-add}
-use Rattle.octets.specs.Octets.{choose, padTo, tabulate}
+use Rattle.octets.specs.Octets.{padTo, tabulate}
 use Rattle.octets.specs.Blocks.{_⊕_}
 use Rattle.octets.proofs.Fill.{Filled, filled-more, filled-all, is-tabulate, getD-padTo, length-padTo}
 use Rattle.cmac_spec.specs.Cmac.{shifted, padded, lastBy}
@@ -42,10 +42,10 @@ module _ (held : List ℕ) (size : length held ≡ 16) where
   held-length count = omega (arith, length-take count held)
 
   pub filled-byte : (count : ℕ) (part : List ℕ) (k : ℕ) → k < 16
-      → choose (ltb k count) (getD held k 0) (getD part (k - count) 0) ≡ getD (take count held ++ part) k 0
+      → cond (ltb k count) (getD held k 0) (getD part (k - count) 0) ≡ getD (take count held ++ part) k 0
   filled-byte count part k h = go (ltb k count) refl
     where
-      go : (t : Bool) → ltb k count ≡ t → choose t (getD held k 0) (getD part (k - count) 0) ≡ getD (take count held ++ part) k 0
+      go : (t : Bool) → ltb k count ≡ t → cond t (getD held k 0) (getD part (k - count) 0) ≡ getD (take count held ++ part) k 0
       go true e =
           let l = ltb-true k count e in
           sym (List·getD-append (take count held) part 0 k (omega (arith, held-length count)) ∙ getD-take count held k 0 l)

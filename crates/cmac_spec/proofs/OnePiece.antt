@@ -1,6 +1,6 @@
 -- The subkeys and the chain are blocks, and two messages of one length that differ inside one piece have different checks. Assumes nothing.
 use mathlib.Core.Path.{_≡_, refl, sym, ap, ap₂, _∙_}
-use mathlib.Core.Bool.{Bool, true, false}
+use mathlib.Core.Bool.{Bool, true, false, cond}
 use mathlib.Core.List.{List, [], _∷_, _++_}
 use Prim.Native.Nat.{ℕ, zero, suc, _+_, _-_, _*_, _/_, _%_, _≤_, _<_}
 use native.Mathlib.Omega.{arith}
@@ -8,7 +8,7 @@ use lib.Dec.{eqb, ltb}
 use borrow.Author.Tests.{eqb-true, eqb-false}
 use lib.ListN.{length, getD, take, drop, replicate, length-append, length-drop, take-append-drop}
 use lib.Seq.{length-take-le, take-append-seam, take-append-le, ext-getD, getD-take, getD-drop}
-use Rattle.octets.specs.Octets.{choose, padTo, Bytes, Octets}
+use Rattle.octets.specs.Octets.{padTo, Bytes, Octets}
 use Rattle.octets.specs.Blocks.{_⊕_, BlockCipher, Lawful}
 use Rattle.octets.proofs.Fill.{length-tabulate, tabulate-lt, length-padTo}
 use Rattle.octets.proofs.Blocks.{⊕-comm, ⊕-injective, ⊕-octets, drop-bytes, append-bytes, zeros-bytes, take-octets}
@@ -35,7 +35,7 @@ pub doubled-octets : {s : List ℕ} → Octets 16 s → Octets 16 (doubled s)
 unfolding doubled
 doubled-octets {s} o = go (ltb (getD s 0 0) 128)
   where
-    go : (t : Bool) → Octets 16 (choose t (shifted s) (shifted s ⊕ r128))
+    go : (t : Bool) → Octets 16 (cond t (shifted s) (shifted s ⊕ r128))
     go true = shifted-octets s (o .bytes)
     go false = ⊕-octets (shifted-octets s (o .bytes)) (record { size = refl; bytes = append-bytes (replicate 15 0) (135 ∷ []) (zeros-bytes 15) (one-byte 135 (omega arith)) })
 
@@ -73,7 +73,7 @@ module _ (c : BlockCipher) (enc-block : (x : List ℕ) → Octets 16 x → Octet
   unfolding last
   last-octets b h k = go (eqb (length b) 16) refl
     where
-      go : (t : Bool) → eqb (length b) 16 ≡ t → Octets 16 (choose t (key1 c ⊕ b) (key2 c ⊕ padded b))
+      go : (t : Bool) → eqb (length b) 16 ≡ t → Octets 16 (cond t (key1 c ⊕ b) (key2 c ⊕ padded b))
       go true e = ⊕-octets key1-octets (record { size = eqb-true (length b) 16 e; bytes = k })
       go false e = ⊕-octets key2-octets (padded-octets b (short b h e) k)
 

@@ -1,10 +1,11 @@
 -- CMAC of SP 800-38B over any block cipher of 16 bytes, CIPH_K there. Assumes nothing: these are definitions.
+use mathlib.Core.Bool.{cond}
 use Prim.Native.Nat.{ℕ, zero, suc, _+_, _-_, _*_, _/_, _%_}
 use mathlib.Core.Path.{_≡_}
 use mathlib.Core.List.{List, [], _∷_, _++_}
 use lib.Dec.{eqb, ltb}
 use lib.ListN.{length, getD, take, drop, replicate}
-use Rattle.octets.specs.Octets.{choose, tabulate, padTo}
+use Rattle.octets.specs.Octets.{tabulate, padTo}
 use Rattle.octets.specs.Blocks.{_⊕_, BlockCipher}
 
 -- a 128-bit number, its highest byte first, shifted left by one bit: each byte hands its top bit to the byte before it
@@ -17,7 +18,7 @@ r128 = replicate 15 0 ++ (0x87 ∷ [])
 
 -- such a number doubled (6.1, steps 2 and 3): where its top bit was set, R_128 is added
 unfoldable pub doubled : List ℕ → List ℕ
-doubled s = choose (ltb (getD s 0 0) 128) (shifted s) (shifted s ⊕ r128)
+doubled s = cond (ltb (getD s 0 0) 128) (shifted s) (shifted s ⊕ r128)
 
 -- the subkeys K1 and K2 (6.1), of L = CIPH_K(0)
 unfoldable pub key1 : BlockCipher → List ℕ
@@ -32,7 +33,7 @@ padded b = padTo 16 (b ++ (0x80 ∷ []))
 
 -- M_n of the last piece M_n* (6.2, step 4), with the subkeys at hand
 abbrev pub lastBy : (k1 k2 b : List ℕ) → List ℕ
-lastBy k1 k2 b = choose (eqb (length b) 16) (k1 ⊕ b) (k2 ⊕ padded b)
+lastBy k1 k2 b = cond (eqb (length b) 16) (k1 ⊕ b) (k2 ⊕ padded b)
 
 unfoldable pub last : BlockCipher → List ℕ → List ℕ
 last c b = lastBy (key1 c) (key2 c) b

@@ -1,6 +1,7 @@
 // The pieces of a message that goes through CMAC of SP 800-38B: filled up as their bytes come, and the last one with its subkey.
 mod doubling;
 
+ghost use mathlib.Core.Bool.{cond};
 use crate::doubling::doubled;
 use aes_rounds::encrypt_block;
 use octets_block::xor;
@@ -9,12 +10,12 @@ ghost use mathlib.Core.List.{_++_};
 ghost use Prim.Native.Nat.{_-_};
 ghost use lib.ListN.{getD, take};
 ghost use lib.Dec.{ltb};
-ghost use Rattle.octets.specs.Octets.{choose, padTo};
+ghost use Rattle.octets.specs.Octets.{padTo};
 ghost use Rattle.aes_spec.specs.Cipher.{standard};
 ghost use Rattle.cmac_spec.specs.Cmac as spec;
 
 // The bytes held, then those of the part, as many as 16 bytes have room for, then zeros.
-pub fn filled(held: [u8; 16], count: usize, part: &[u8]) -> [u8; 16]
+pub fn piece_filled(held: [u8; 16], count: usize, part: &[u8]) -> [u8; 16]
     ensures { λ r. ⌜ r ≡ padTo 16 (take 16 (take count held ++ now (part .entry))) ⌝ }
 {
     let mut piece = [0u8; 16];
@@ -43,13 +44,13 @@ pub fn last(key1: &[u8; 16], key2: &[u8; 16], held: [u8; 16], count: usize) -> [
     ensures { λ r. ⌜ r ≡ spec.lastBy (now (key1 .entry)) (now (key2 .entry)) (take count held) ⌝ }
 {
     if count < 16 {
-        return xor(*key2, filled(held, count, b"\x80"));
+        return xor(*key2, piece_filled(held, count, b"\x80"));
     }
     xor(*key1, held)
 }
 
 fn byte_of(held: u8, count: usize, part: &[u8], i: usize) -> u8
-    ensures { λ r. ⌜ r ≡ choose (ltb i count) held (getD (now (part .entry)) (i - count) 0) ⌝ }
+    ensures { λ r. ⌜ r ≡ cond (ltb i count) held (getD (now (part .entry)) (i - count) 0) ⌝ }
 {
     if i < count {
         return held;

@@ -28,7 +28,8 @@ pub struct Taken {
 
 // The words of a line that has the form of a row of the table of calls, or `ok` false.
 pub fn take(line: &[u8], row: &[u8; 26], ins: &mut [u8], outs: &mut [u8]) -> Args {
-    let mut ok = text_words::count(line) == text_words::find(text_words::part(row, 16, 26), 0, 32);
+    let mut ok = text_words::count(line)
+        == text_words::find(octets_slice::part(row, 16, 26), 0, 32);
     let mut ends = [0usize; 10];
     let mut numbers = [0u64; 10];
     let mut at: usize = 0;
@@ -127,7 +128,7 @@ pub fn bytes(ins: &[u8], a: Args, k: usize) -> &[u8] {
     if 10 <= k {
         return &ins[..0];
     }
-    text_words::part(ins, ends[k - 1], ends[k])
+    octets_slice::part(ins, ends[k - 1], ends[k])
 }
 
 // How many bytes at the front of its memory the output has that is word k, so that a call is lent `&mut outs[..n]`.

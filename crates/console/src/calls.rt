@@ -94,7 +94,10 @@ fn row_of(w: &[u8]) -> usize {
 }
 
 fn has_name(row: [u8; 26], w: &[u8]) -> bool {
-    check::same(w, text_words::part(&row, 0, text_words::find(&row, 0, 32)))
+    check::same(
+        w,
+        octets_slice::part(&row, 0, text_words::find(&row, 0, 32)),
+    )
 }
 
 // Puts the answer to a line after those that wait; for a bad line nothing is put and nothing held changes.

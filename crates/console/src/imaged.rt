@@ -42,7 +42,7 @@ fn write(ins: &[u8], a: Args, outs: &mut [u8], text: &mut [u8], at: usize) -> us
         args::bytes(ins, a, 8),
         &mut outs[..n],
     );
-    print::number_bytes(r.number() as u64, text_words::part(outs, 0, n), text, at)
+    print::number_bytes(r.number() as u64, octets_slice::part(outs, 0, n), text, at)
 }
 
 fn numbers(a: Args) -> Numbers {
@@ -66,14 +66,14 @@ fn turn(held: Held, ins: &[u8], a: Args, outs: &mut [u8], text: &mut [u8], at: u
     let reader = held.reader;
     let n = args::out_len(a, 3, outs);
     let blocks = args::bytes(ins, a, 2);
-    let t = image::read_turn(reader, blocks, args::count(a, 1), &mut outs[..n]);
-    after_turn(held, t, text_words::part(outs, 0, n), text, at)
+    let t = image_reader::read_turn(reader, blocks, args::count(a, 1), &mut outs[..n]);
+    after_turn(held, t, octets_slice::part(outs, 0, n), text, at)
 }
 
 fn after_turn(held: Held, t: Turn, out: &[u8], text: &mut [u8], at: usize) -> Held {
     let reader = t.reader;
     let p = print::six(stopped::turn_numbers(t), text, at);
-    held.with_reader(reader).at(text_put::put_hex(out, text, p))
+    held.with_reader(reader).at(text_hex::put_hex(out, text, p))
 }
 
 fn complete(held: Held, text: &mut [u8], at: usize) -> usize {

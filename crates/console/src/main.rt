@@ -77,7 +77,7 @@ fn written(held: Held, text: &[u8]) -> Held {
     if held.cut {
         return held.at(0);
     }
-    if streams::is_written(text_words::part(text, 0, held.end)) {
+    if streams::is_written(octets_slice::part(text, 0, held.end)) {
         return held.at(0);
     }
     held.at(0).cut_off()
@@ -105,7 +105,7 @@ fn finish(
     if p.over {
         return held.at(close(from, from, text));
     }
-    let d = calls::answer(held, text_words::part(line, 0, p.len), ins, outs, text);
+    let d = calls::answer(held, octets_slice::part(line, 0, p.len), ins, outs, text);
     let to = d.end;
     d.at(close(from, to, text))
 }
@@ -132,7 +132,7 @@ fn feed_line(
     ensures { λ r. ⌜ at < r .at ⌝ }
 {
     let e = text_words::find(part, at, 10);
-    let place = extend(p, text_words::part(part, at, e), line);
+    let place = extend(p, octets_slice::part(part, at, e), line);
     if part.len() <= e {
         return Fed {
             held,

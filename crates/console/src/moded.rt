@@ -26,7 +26,7 @@ pub fn answer(
     let next = r.next;
     let p = number_next(told.number() as u64, chains, next, text, at);
     let q = text_put::put(b" ", text, p);
-    text_put::put_hex(text_words::part(outs, 0, n), text, q)
+    text_hex::put_hex(octets_slice::part(outs, 0, n), text, q)
 }
 
 // `N`, or `N NEXT`

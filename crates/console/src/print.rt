@@ -30,13 +30,13 @@ pub fn six(numbers: [u64; 6], text: &mut [u8], at: usize) -> usize {
 pub fn number_bytes(n: u64, bytes: &[u8], text: &mut [u8], at: usize) -> usize {
     let p = number(n, text, at);
     let q = text_put::put(b" ", text, p);
-    text_put::put_hex(bytes, text, q)
+    text_hex::put_hex(bytes, text, q)
 }
 
 // A word as eight hex digits, the high byte first.
 fn word(x: u32, text: &mut [u8], at: usize) -> usize {
     let b = aes_words::word_bytes(x);
-    text_put::put_hex(&b, text, at)
+    text_hex::put_hex(&b, text, at)
 }
 
 // `N WORDS`

@@ -29,7 +29,7 @@ fn wrapped(ins: &[u8], a: Args, outs: &mut [u8], text: &mut [u8], at: usize) -> 
         args::bytes(ins, a, 2),
         &mut outs[..n],
     );
-    print::number_bytes(r.number() as u64, text_words::part(outs, 0, n), text, at)
+    print::number_bytes(r.number() as u64, octets_slice::part(outs, 0, n), text, at)
 }
 
 fn unwrapped(ins: &[u8], a: Args, outs: &mut [u8], text: &mut [u8], at: usize) -> usize {
@@ -39,5 +39,5 @@ fn unwrapped(ins: &[u8], a: Args, outs: &mut [u8], text: &mut [u8], at: usize) -
         args::bytes(ins, a, 2),
         &mut outs[..n],
     );
-    print::number_bytes(r.number() as u64, text_words::part(outs, 0, n), text, at)
+    print::number_bytes(r.number() as u64, octets_slice::part(outs, 0, n), text, at)
 }

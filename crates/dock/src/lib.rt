@@ -20,7 +20,7 @@ ghost use Rattle.cmac.specs.Calls.{checkOf, startOf, fedWith, closeOf};
 ghost use Rattle.image_writer_answer.specs.Answers.{writeNumber};
 ghost use Rattle.image_writer.specs.Calls.{writeAnswer, writeOutput};
 ghost use Rattle.image_reader.specs.Calls as readers;
-ghost use Rattle.image.specs.Calls.{turnOf};
+ghost use Rattle.image_reader.specs.Calls.{turnOf};
 ghost use Rattle.wrap_answer.specs.Answers.{wrapNumber};
 ghost use Rattle.wrap.specs.Calls.{wrapAnswer, wrapOutput, unwrapAnswer, unwrapOutput};
 ghost use Rattle.dock.specs.Answers.{scheduleAnswer, blockAnswer, chainAnswer, modeApplied, afterMode, checkAnswer, startAnswer, closeAnswer, readStartAnswer, numbers};
@@ -115,7 +115,7 @@ pub extern "C" fn dock_ecb_encrypt(key: &[u8], iv: &[u8], input: &[u8], output: 
     ensures answer { λ r. ⌜ r ≡ modeNumber (modeAnswer EcbEncrypt (now (key .entry)) (now (iv .entry)) (now (input .entry)) (now (output .entry))) ⌝ }
     ensures written { λ _. ⌜ now (output .exit) ≡ afterMode EcbEncrypt (now (key .entry)) (now (iv .entry)) (now (input .entry)) (now (output .entry)) ⌝ }
 {
-    moded(Operation::EcbEncrypt, key, iv, input, output)
+    run_mode(Operation::EcbEncrypt, key, iv, input, output)
 }
 
 #[no_mangle]
@@ -123,7 +123,7 @@ pub extern "C" fn dock_ecb_decrypt(key: &[u8], iv: &[u8], input: &[u8], output: 
     ensures answer { λ r. ⌜ r ≡ modeNumber (modeAnswer EcbDecrypt (now (key .entry)) (now (iv .entry)) (now (input .entry)) (now (output .entry))) ⌝ }
     ensures written { λ _. ⌜ now (output .exit) ≡ afterMode EcbDecrypt (now (key .entry)) (now (iv .entry)) (now (input .entry)) (now (output .entry)) ⌝ }
 {
-    moded(Operation::EcbDecrypt, key, iv, input, output)
+    run_mode(Operation::EcbDecrypt, key, iv, input, output)
 }
 
 #[no_mangle]
@@ -136,7 +136,7 @@ pub extern "C" fn dock_cbc_encrypt(
     ensures answer { λ r. ⌜ r ≡ chainAnswer (modeApplied CbcEncrypt (now (key .entry)) (now (iv .entry)) (now (input .entry)) (now (output .entry))) ⌝ }
     ensures written { λ _. ⌜ now (output .exit) ≡ afterMode CbcEncrypt (now (key .entry)) (now (iv .entry)) (now (input .entry)) (now (output .entry)) ⌝ }
 {
-    chained(Operation::CbcEncrypt, key, iv, input, output)
+    run_chained_mode(Operation::CbcEncrypt, key, iv, input, output)
 }
 
 #[no_mangle]
@@ -149,7 +149,7 @@ pub extern "C" fn dock_cbc_decrypt(
     ensures answer { λ r. ⌜ r ≡ chainAnswer (modeApplied CbcDecrypt (now (key .entry)) (now (iv .entry)) (now (input .entry)) (now (output .entry))) ⌝ }
     ensures written { λ _. ⌜ now (output .exit) ≡ afterMode CbcDecrypt (now (key .entry)) (now (iv .entry)) (now (input .entry)) (now (output .entry)) ⌝ }
 {
-    chained(Operation::CbcDecrypt, key, iv, input, output)
+    run_chained_mode(Operation::CbcDecrypt, key, iv, input, output)
 }
 
 #[no_mangle]
@@ -162,7 +162,7 @@ pub extern "C" fn dock_cfb_encrypt(
     ensures answer { λ r. ⌜ r ≡ chainAnswer (modeApplied CfbEncrypt (now (key .entry)) (now (iv .entry)) (now (input .entry)) (now (output .entry))) ⌝ }
     ensures written { λ _. ⌜ now (output .exit) ≡ afterMode CfbEncrypt (now (key .entry)) (now (iv .entry)) (now (input .entry)) (now (output .entry)) ⌝ }
 {
-    chained(Operation::CfbEncrypt, key, iv, input, output)
+    run_chained_mode(Operation::CfbEncrypt, key, iv, input, output)
 }
 
 #[no_mangle]
@@ -175,7 +175,7 @@ pub extern "C" fn dock_cfb_decrypt(
     ensures answer { λ r. ⌜ r ≡ chainAnswer (modeApplied CfbDecrypt (now (key .entry)) (now (iv .entry)) (now (input .entry)) (now (output .entry))) ⌝ }
     ensures written { λ _. ⌜ now (output .exit) ≡ afterMode CfbDecrypt (now (key .entry)) (now (iv .entry)) (now (input .entry)) (now (output .entry)) ⌝ }
 {
-    chained(Operation::CfbDecrypt, key, iv, input, output)
+    run_chained_mode(Operation::CfbDecrypt, key, iv, input, output)
 }
 
 #[no_mangle]
@@ -183,7 +183,7 @@ pub extern "C" fn dock_ofb(key: &[u8], iv: &[u8], input: &[u8], output: &mut [u8
     ensures answer { λ r. ⌜ r ≡ chainAnswer (modeApplied Ofb (now (key .entry)) (now (iv .entry)) (now (input .entry)) (now (output .entry))) ⌝ }
     ensures written { λ _. ⌜ now (output .exit) ≡ afterMode Ofb (now (key .entry)) (now (iv .entry)) (now (input .entry)) (now (output .entry)) ⌝ }
 {
-    chained(Operation::Ofb, key, iv, input, output)
+    run_chained_mode(Operation::Ofb, key, iv, input, output)
 }
 
 #[no_mangle]
@@ -277,7 +277,7 @@ pub extern "C" fn dock_read_turn(
     ensures answer { λ r. ⌜ r ≡ turnAnswer (turnOf reader (now (blocks .entry)) asked (now (output .entry)) .0) ⌝ }
     ensures written { λ _. ⌜ now (output .exit) ≡ turnOf reader (now (blocks .entry)) asked (now (output .entry)) .1 ⌝ }
 {
-    let t = image::read_turn(reader, blocks, asked, output);
+    let t = image_reader::read_turn(reader, blocks, asked, output);
     turn_answer(t)
 }
 
@@ -318,7 +318,7 @@ fn block_answer(c: Ciphered) -> BlockAnswer
     }
 }
 
-fn moded(operation: Operation, key: &[u8], iv: &[u8], input: &[u8], output: &mut [u8]) -> u32
+fn run_mode(operation: Operation, key: &[u8], iv: &[u8], input: &[u8], output: &mut [u8]) -> u32
     ensures answer { λ r. ⌜ r ≡ modeNumber (modeAnswer operation (now (key .entry)) (now (iv .entry)) (now (input .entry)) (now (output .entry))) ⌝ }
     ensures written { λ _. ⌜ now (output .exit) ≡ afterMode operation (now (key .entry)) (now (iv .entry)) (now (input .entry)) (now (output .entry)) ⌝ }
 {
@@ -327,7 +327,7 @@ fn moded(operation: Operation, key: &[u8], iv: &[u8], input: &[u8], output: &mut
     answer.number()
 }
 
-fn chained(
+fn run_chained_mode(
     operation: Operation,
     key: &[u8],
     iv: &[u8],

@@ -1,6 +1,6 @@
 -- The algebra of doubling and of the product. Assumes nothing.
 use mathlib.Core.Path.{_≡_, refl, sym, ap, ap₂, _∙_}
-use mathlib.Core.Bool.{Bool, true, false}
+use mathlib.Core.Bool.{Bool, true, false, cond}
 use mathlib.Core.Logic.{⊎-elim}
 use Prim.Native.Nat.{ℕ, zero, suc, _+_, _*_, _/_, _%_, _≤_, _<_}
 use native.Mathlib.Nat.{not-suc-le-zero, le-refl, zero-lt-suc, mod-lt, add-zero}
@@ -11,8 +11,8 @@ use borrow.Author.Tests.{eq-eqb, ne-eqb, lt-ltb, le-ltb}
 use lib.Arith.{half-le, bin-ind}
 use lib.Dec.{eqb}
 use lib.Bits.{bitXor, xor-block, xor-mod, xor-shr}
-use Rattle.octets.specs.Octets.{choose, xor}
-use Rattle.octets.proofs.Xor.{lt-or-le, choose-lt, xor-medial, xor-zero, zero-xor, xor-lt}
+use Rattle.octets.specs.Octets.{xor}
+use Rattle.octets.proofs.Xor.{lt-or-le, cond-lt, xor-medial, xor-zero, zero-xor, xor-lt}
 use Rattle.field.specs.Field.{xTimes, xPower, productWithin, _•_}
 
 -- ---- doubling
@@ -73,17 +73,17 @@ more zero a zero h = refl
 more zero a (suc b) h = absurd (not-suc-le-zero h)
 more (suc n) a zero h = refl
 more (suc n) a (suc b) h =
-    ap (λ (x : ℕ). choose (eqb (suc b % 2) 0) (xTimes x) (xor (xTimes x) a)) (more n a (suc b / 2) (half-le h))
+    ap (λ (x : ℕ). cond (eqb (suc b % 2) 0) (xTimes x) (xor (xTimes x) a)) (more n a (suc b / 2) (half-le h))
 
 enough : (n a b : ℕ) → b ≤ n → productWithin n a b ≡ productWithin b a b
 enough n a b h = le-ind (λ (m : ℕ). productWithin m a b ≡ productWithin b a b) refl (λ m k e. more m a b k ∙ e) n h
 
 -- the product's rule, with no bound on the halvings
-pub product-step : (a b : ℕ) → a • b ≡ choose (eqb (b % 2) 0) (xTimes (a • (b / 2))) (xor (xTimes (a • (b / 2))) a)
+pub product-step : (a b : ℕ) → a • b ≡ cond (eqb (b % 2) 0) (xTimes (a • (b / 2))) (xor (xTimes (a • (b / 2))) a)
 unfolding _•_ productWithin xTimes
 product-step a zero = refl
 product-step a (suc b) =
-    ap (λ (x : ℕ). choose (eqb (suc b % 2) 0) (xTimes x) (xor (xTimes x) a)) (enough b a (suc b / 2) (half-le (le-refl (suc b))))
+    ap (λ (x : ℕ). cond (eqb (suc b % 2) 0) (xTimes x) (xor (xTimes x) a)) (enough b a (suc b / 2) (half-le (le-refl (suc b))))
 
 pub product-zero : (a : ℕ) → a • 0 ≡ 0
 unfolding _•_ productWithin
@@ -108,7 +108,7 @@ product-three a = product-odd a 3 (λ e. omega arith) ∙ ap (λ (x : ℕ). xor 
 pub product-lt : {a : ℕ} (b : ℕ) → a < 256 → a • b < 256
 product-lt {a} b h =
     bin-ind (λ (b : ℕ). a • b < 256) (rw (product-zero a) (zero-lt-suc 255))
-    (λ b ih. rw (product-step a b) (choose-lt (eqb (b % 2) 0) (double-lt ih) (xor-lt (double-lt ih) h))) b
+    (λ b ih. rw (product-step a b) (cond-lt (eqb (b % 2) 0) (double-lt ih) (xor-lt (double-lt ih) h))) b
 
 -- the product goes through a sum in its first factor
 pub product-xor : (x y b : ℕ) → x < 256 → y < 256 → xor x y • b ≡ xor (x • b) (y • b)
@@ -118,7 +118,7 @@ product-xor x y b hx hy =
   where
     step : (b : ℕ) → xor x y • (b / 2) ≡ xor (x • (b / 2)) (y • (b / 2)) → xor x y • b ≡ xor (x • b) (y • b)
     step b ih =
-        product-step (xor x y) b ∙ ap (λ (d : ℕ). choose (eqb (b % 2) 0) d (xor d (xor x y))) both
+        product-step (xor x y) b ∙ ap (λ (d : ℕ). cond (eqb (b % 2) 0) d (xor d (xor x y))) both
         ∙ split (eqb (b % 2) 0)
         ∙ sym (ap₂ xor (product-step x b) (product-step y b))
       where
@@ -131,6 +131,6 @@ product-xor x y b hx hy =
         both : xTimes (xor x y • (b / 2)) ≡ xor u v
         both = ap xTimes ih ∙ double-xor (x • (b / 2)) (y • (b / 2)) (product-lt (b / 2) hx) (product-lt (b / 2) hy)
 
-        split : (t : Bool) → choose t (xor u v) (xor (xor u v) (xor x y)) ≡ xor (choose t u (xor u x)) (choose t v (xor v y))
+        split : (t : Bool) → cond t (xor u v) (xor (xor u v) (xor x y)) ≡ xor (cond t u (xor u x)) (cond t v (xor v y))
         split true = refl
         split false = xor-medial u v x y

@@ -1,7 +1,7 @@
 -- The tables L and E hold what their rule says, by one test over each, and the product by lookups in them is the product, for every
 -- pair of bytes. Assumes nothing.
 use mathlib.Core.Path.{_≡_, refl, sym, ap, ap₂, _∙_}
-use mathlib.Core.Bool.{Bool, true, false, _&&_}
+use mathlib.Core.Bool.{Bool, true, false, _&&_, cond}
 use mathlib.Core.Logic.{⊎-elim}
 use Prim.Native.Nat.{ℕ, zero, suc, _+_, _-_, _*_, _/_, _%_, _≤_, _<_}
 use native.Mathlib.Nat.{zero-add, suc-add, le-of-suc-le-suc, eq-or-lt-of-le}
@@ -9,11 +9,11 @@ use native.Mathlib.Omega.{arith}
 use borrow.Author.Tests.{eq-eqb, ne-eqb, lt-ltb, le-ltb}
 use lib.Arith.{bin-ind}
 use lib.Dec.{T, eqb, ltb, eqb→eq, ltb→lt}
-use Rattle.octets.specs.Octets.{choose, xor, entry}
+use Rattle.octets.specs.Octets.{xor, entry}
 use Rattle.octets.proofs.Tests.{both-left, both-right, at-each, below, on-bytes}
 use Rattle.octets.proofs.Xor.{lt-or-le}
-use Rattle.field_log.specs.Tables.{lTable}
-use Rattle.field_exp.specs.Tables.{eTable}
+use Rattle.field_log.specs.Model.{lTable}
+use Rattle.field_exp.specs.Model.{eTable}
 use Rattle.field.specs.Field.{xTimes, productWithin, _•_}
 use Rattle.field.specs.Logarithms.{E, logarithmBelow, L, added, lookedUp}
 use Rattle.field.proofs.Laws.{double-lt, double-xor, product-step, product-zero, product-three, product-lt, product-xor}
@@ -28,13 +28,13 @@ double-product a b h =
   where
     step : (b : ℕ) → xTimes a • (b / 2) ≡ xTimes (a • (b / 2)) → xTimes a • b ≡ xTimes (a • b)
     step b ih =
-        product-step (xTimes a) b ∙ ap (λ (x : ℕ). choose (eqb (b % 2) 0) (xTimes x) (xor (xTimes x) (xTimes a))) ih
+        product-step (xTimes a) b ∙ ap (λ (x : ℕ). cond (eqb (b % 2) 0) (xTimes x) (xor (xTimes x) (xTimes a))) ih
         ∙ either (eqb (b % 2) 0) ∙ sym (ap xTimes (product-step a b))
       where
         u : ℕ
         u = xTimes (a • (b / 2))
 
-        either : (t : Bool) → choose t (xTimes u) (xor (xTimes u) (xTimes a)) ≡ xTimes (choose t u (xor u a))
+        either : (t : Bool) → cond t (xTimes u) (xor (xTimes u) (xTimes a)) ≡ xTimes (cond t u (xor u a))
         either true = refl
         either false = sym (double-xor u a (double-lt (product-lt (b / 2) h)) h)
 

@@ -1,7 +1,7 @@
 // The table L, by which two bytes are multiplied together with E of `powers`: logarithms to the base 03.
 ghost use mathlib.Core.Path.{_≡_};
 ghost use Rattle.octets.specs.Octets.{entry};
-ghost use Rattle.field_log.specs.Tables.{lTable};
+ghost use Rattle.field_log.specs.Model.{lTable};
 
 // L. A `match` over every byte is compiled to a table in read-only memory, where a constant array would be laid out on the stack at
 // each lookup.

@@ -2,14 +2,14 @@
 // What is no block of 512 bytes has no right check.
 use aes_schedule::is_round_count;
 use cmac_run::Run;
-use comparing::equal;
 use image_spec::Rounds;
 use octets_block::load;
+use octets_slice::equal;
 ghost use mathlib.Core.Path.{_≡_};
 ghost use mathlib.Core.Bool.{_&&_};
 ghost use mathlib.Core.List.{_++_};
 ghost use Rattle.image_spec.specs.Sealed.{checks};
-ghost use Rattle.image_spec.specs.Lent.{usable, lentMac};
+ghost use Rattle.image_spec.specs.Model.{usable, lentMac};
 
 // The check of the first bytes of a block and a tail behind them, which are not copied together.
 pub fn check_of(
@@ -49,5 +49,5 @@ pub fn check_holds(
         return false;
     }
     let made = check_of(cwords, key1, key2, rounds.chk, &block[0..496], tail);
-    equal(made, load(block, 496))
+    equal(&made, &load(block, 496))
 }

@@ -9,11 +9,11 @@ ghost use Prim.Native.Nat.{_<_};
 ghost use lib.Dec.{eqb, leb};
 ghost use lib.ListN.{length, take, drop};
 ghost use Rattle.aes_spec.specs.Cipher.{encryptBlock};
-ghost use Rattle.aes_spec.specs.Equivalent.{equivalentCipher};
+ghost use Rattle.aes_spec.specs.Model.{equivalentCipher};
 ghost use Rattle.aes_sbox.specs.Sbox.{sBox};
 ghost use Rattle.modes_spec.specs.Equations.{previous};
 ghost use Rattle.image_spec.specs.Sealed.{allZero, zeroAfter};
-ghost use Rattle.image_spec.specs.Lent.{filledOut};
+ghost use Rattle.image_spec.specs.Model.{filledOut};
 
 // For a payload of this length. What is no block of 512 bytes has no zero fill.
 pub fn fill_is_zero(

@@ -3,8 +3,8 @@ use aes_rounds::encrypt_block;
 use modes_spec::Operation;
 use octets_block::load;
 ghost use mathlib.Core.Path.{_≡_};
-ghost use Rattle.aes_spec.specs.Equivalent.{equivalentCipher};
-ghost use Rattle.image_spec.specs.Lent.{openedOver};
+ghost use Rattle.aes_spec.specs.Model.{equivalentCipher};
+ghost use Rattle.image_spec.specs.Model.{openedOver};
 
 // Puts the 480 decrypted bytes of a block into the first of an output; the IV is the header enciphered.
 // Where there is no block, or no room for its bytes, nothing is written.

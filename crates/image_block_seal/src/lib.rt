@@ -13,7 +13,7 @@ ghost use lib.ListN.{length};
 ghost use Rattle.octets.specs.Octets.{over};
 ghost use Rattle.aes_spec.specs.Cipher.{standard};
 ghost use Rattle.image_spec.specs.Sealed.{sealed};
-ghost use Rattle.image_spec.specs.Lent.{lentMac, sealedOver};
+ghost use Rattle.image_spec.specs.Model.{lentMac, sealedOver};
 
 // Writes the block with this header and payload, whose check covers a tail besides, into the first 512 bytes of an output.
 // Where the payload is over 480 bytes, or there is no room for a block, nothing is written.

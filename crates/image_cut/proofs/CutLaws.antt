@@ -11,8 +11,9 @@ use lib.Seq.{take-all, take-nil, drop-drop, take-add}
 use lib.Dec.{eqb}
 use borrow.Author.Tests.{lt-ltb, le-ltb, le-leb, eq-eqb, eqb-true, eqb-false}
 use Rattle.image_limits.specs.Fits.{countFits, lengthFits}
+use Rattle.modes_spec.specs.Pieces.{piece}
 use Rattle.image_cut.specs.declared.Counted.the-variants.{Blocks, TooLong}
-use Rattle.image_cut.specs.Cut.{most, blocksOf, countOf, partOf, joined}
+use Rattle.image_cut.specs.Cut.{most, blocksOf, countOf, joined}
 
 -- ---- the count
 
@@ -40,26 +41,23 @@ count-some n h g = count-within n g ∙ ap Blocks (blocks-some n h)
 
 -- ---- the parts
 
-pub part-past : (p : List ℕ) (i : ℕ) → length p / 480 < i → partOf p i ≡ []
-unfolding partOf
+pub part-past : (p : List ℕ) (i : ℕ) → length p / 480 < i → piece 480 p i ≡ []
 part-past p i h = rw (drop-of-length-le p {i = i * 480} (omega arith)) (take-nil 480)
 
 -- the part as the code cuts it: from its place to the end first
-pub part-here : (p : List ℕ) (i : ℕ) → take 480 (take (length p - i * 480) (drop (i * 480) p)) ≡ partOf p i
-unfolding partOf
+pub part-here : (p : List ℕ) (i : ℕ) → take 480 (take (length p - i * 480) (drop (i * 480) p)) ≡ piece 480 p i
 part-here p i =
     let e : length (drop (i * 480) p) ≡ length p - i * 480 = length-drop (i * 480) p in
     ap (take 480) (take-all (length p - i * 480) (drop (i * 480) p) (omega (arith, e)))
 
 -- what a turn of the sealing takes: part i behind the first n blocks is part n + i
-pub part-later : (p : List ℕ) (n i : ℕ) → partOf (drop (n * 480) p) i ≡ partOf p (n + i)
-unfolding partOf
+pub part-later : (p : List ℕ) (n i : ℕ) → piece 480 (drop (n * 480) p) i ≡ piece 480 p (n + i)
 part-later p n i =
     let e : (n + i) * 480 ≡ n * 480 + i * 480 = omega arith in
     rw (e, drop-drop)
 
 joined-take : (p : List ℕ) (n : ℕ) → joined p n ≡ take (n * 480) p
-unfolding joined partOf
+unfolding joined
 joined-take p zero = refl
 joined-take p (suc n) =
     let e : suc n * 480 ≡ n * 480 + 480 = omega arith in
@@ -75,8 +73,7 @@ parts-join p = joined-take p (blocksOf (length p)) ∙ take-all (blocksOf (lengt
 
 -- ---- what the writer asks
 
-part-length : (p : List ℕ) (i : ℕ) → length (partOf p i) ≡ min 480 (length p - i * 480)
-unfolding partOf
+part-length : (p : List ℕ) (i : ℕ) → length (piece 480 p i) ≡ min 480 (length p - i * 480)
 part-length p i = rw (length-take, length-drop)
 
 pub count-fits : (n : ℕ) → n ≤ most → countFits (blocksOf n) ≡ true
@@ -110,5 +107,5 @@ size-fits zero i h = rw blocks-none (fits-none i (rw blocks-none at h))
 size-fits (suc n) i h = fits-by (suc n) i (blocksOf (suc n)) (blocks-some (suc n) (omega arith)) h (eqb (i + 1) (blocksOf (suc n))) refl
 
 -- the length of each part is the one that its place asks for
-pub part-fits : (p : List ℕ) (i : ℕ) → i < blocksOf (length p) → lengthFits i (blocksOf (length p)) (length (partOf p i)) ≡ true
+pub part-fits : (p : List ℕ) (i : ℕ) → i < blocksOf (length p) → lengthFits i (blocksOf (length p)) (length (piece 480 p i)) ≡ true
 part-fits p i h = rw (part-length p i) (size-fits (length p) i h)

@@ -1,9 +1,9 @@
 -- A payload cut into blocks of 480 bytes. Assumes nothing: these are definitions.
-use Prim.Native.Nat.{ℕ, zero, suc, _+_, _*_, _/_, max}
+use mathlib.Core.Bool.{cond}
+use Prim.Native.Nat.{ℕ, zero, suc, _+_, _/_, max}
 use mathlib.Core.List.{List, [], _++_}
-use lib.ListN.{take, drop}
 use lib.Dec.{ltb}
-use Rattle.octets.specs.Octets.{choose}
+use Rattle.modes_spec.specs.Pieces.{piece}
 use Rattle.image_cut.specs.declared.Counted.{Counted}
 use Rattle.image_cut.specs.declared.Counted.the-variants.{Blocks, TooLong}
 
@@ -16,13 +16,9 @@ unfoldable pub blocksOf : ℕ → ℕ
 blocksOf n = max 1 ((n + 479) / 480)
 
 unfoldable pub countOf : ℕ → Counted
-countOf n = choose (ltb most n) TooLong (Blocks (blocksOf n))
+countOf n = cond (ltb most n) TooLong (Blocks (blocksOf n))
 
--- the bytes of block i
-unfoldable pub partOf : List ℕ → ℕ → List ℕ
-partOf p i = take 480 (drop (i * 480) p)
-
--- the parts of the first n blocks, joined
+-- the parts of the first n blocks, joined: the bytes of block i are piece i of 480
 unfoldable pub joined : List ℕ → ℕ → List ℕ
 joined p zero = []
-joined p (suc n) = joined p n ++ partOf p n
+joined p (suc n) = joined p n ++ piece 480 p n

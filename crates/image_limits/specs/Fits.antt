@@ -1,8 +1,7 @@
 -- What the count and the length of a header must be (docs/REFUSALS.md). Assumes nothing: these are definitions.
 use Prim.Native.Nat.{ℕ, _+_}
-use mathlib.Core.Bool.{Bool, _&&_, _||_}
+use mathlib.Core.Bool.{Bool, _&&_, _||_, cond}
 use lib.Dec.{eqb, ltb, leb}
-use Rattle.octets.specs.Octets.{choose}
 use Rattle.image_layout.specs.Layout.{bodySize}
 
 -- a count is 1 to 65,535
@@ -12,4 +11,4 @@ countFits n = ltb 0 n && leb n 65535
 -- the last block holds 1 to 480 bytes, or 0 to 480 when it is the only one; every other block holds 480
 unfoldable pub lengthFits : (number count len : ℕ) → Bool
 lengthFits number count len =
-    choose (eqb (number + 1) count) (leb len bodySize && (ltb 0 len || eqb count 1)) (eqb len bodySize)
+    cond (eqb (number + 1) count) (leb len bodySize && (ltb 0 len || eqb count 1)) (eqb len bodySize)

@@ -35,7 +35,7 @@ pub fn is_edition(edition: u32) -> bool
 }
 
 // The edition that a value in bytes 14 and 15 selects.
-pub fn selected(reserved: u16) -> u32
+pub fn edition_selected(reserved: u16) -> u32
     ensures { λ r. ⌜ r ≡ spec.selected reserved ⌝ }
 {
     if reserved == 2 { 2 } else { 1 }

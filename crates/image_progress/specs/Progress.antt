@@ -1,8 +1,7 @@
 -- What follows from how far a reader has come (docs/IMAGE.md). Assumes nothing: these are definitions.
 use Prim.Native.Nat.{ℕ}
-use mathlib.Core.Bool.{Bool, _&&_}
+use mathlib.Core.Bool.{Bool, _&&_, cond}
 use lib.Dec.{eqb, ltb, leb}
-use Rattle.octets.specs.Octets.{choose}
 use Rattle.image_limits.specs.Marks.{selected, markOf}
 use Rattle.image_progress.specs.declared.Progress.{Progress}
 
@@ -16,4 +15,4 @@ closed s = ltb 0 (s .next) && leb (s .count) (s .next)
 
 -- the mark that a reader of both editions asks for: of the edition that it has fixed, and before that of the one selected
 unfoldable pub markFor : Progress → ℕ → ℕ
-markFor s v = markOf (choose (ltb 0 (s .next)) (s .edition) (selected v))
+markFor s v = markOf (cond (ltb 0 (s .next)) (s .edition) (selected v))

@@ -1,6 +1,6 @@
 // How far a reader has come, and what follows from it.
+use image_limits::edition_selected;
 use image_limits::mark_of;
-use image_limits::selected;
 ghost use mathlib.Core.Path.{_≡_};
 ghost use Rattle.image_progress.specs.Progress.{done, closed, markFor};
 
@@ -26,7 +26,7 @@ pub fn complete(progress: Progress) -> bool
 }
 
 // Whether no block may follow: then a block is refused by 16, whatever it holds.
-pub fn closed(progress: Progress) -> bool
+pub fn may_not_follow(progress: Progress) -> bool
     ensures { λ r. ⌜ r ≡ closed progress ⌝ }
 {
     if 0 < progress.next {
@@ -37,11 +37,11 @@ pub fn closed(progress: Progress) -> bool
 }
 
 // The mark that a reader of both editions asks for: of the edition that it has fixed, and before that of the one selected.
-pub fn mark_for(progress: Progress, reserved: u16) -> u32
+pub fn mark_asked_for(progress: Progress, reserved: u16) -> u32
     ensures { λ r. ⌜ r ≡ markFor progress reserved ⌝ }
 {
     if 0 < progress.next {
         return mark_of(progress.edition);
     }
-    mark_of(selected(reserved))
+    mark_of(edition_selected(reserved))
 }

@@ -1,8 +1,8 @@
--- The calls: starting and asking a reader. Assumes nothing: these are definitions.
+-- The calls: starting a reader, a turn, and completion. Assumes nothing: these are definitions.
+use mathlib.Core.Bool.{cond}
 use Prim.Native.Nat.{ℕ}
 use mathlib.Core.List.{List}
 use lib.ListN.{replicate}
-use Rattle.octets.specs.Octets.{choose}
 use Rattle.aes_sbox.specs.Sbox.{sBox}
 use Rattle.aes_schedule.specs.Schedule.{scheduleOf}
 use Rattle.aes_schedule.specs.declared.Expanded.{Expanded}
@@ -10,9 +10,12 @@ use Rattle.aes_schedule.specs.declared.KeySchedule.{KeySchedule}
 use Rattle.aes_schedule.specs.declared.KeyAnswer.{KeyAnswer}
 use Rattle.aes_schedule.specs.declared.KeyAnswer.the-variants.{Taken, KeyLength}
 use Rattle.image_progress.specs.Progress.{done}
-use Rattle.image_spec.specs.Judge.{fresh}
-use Rattle.image_spec.specs.Lent.{bothTaken}
+use Rattle.image_spec.specs.Judge.{Keys, BlockReader, ofBoth, fresh}
+use Rattle.image_spec.specs.Model.{bothTaken}
+use Rattle.image_reader_tally.specs.declared.BlocksRead.{BlocksRead}
+use Rattle.image_reader_turn.specs.Turn.{keysUnder, turnUnder}
 use Rattle.image_reader.specs.declared.Reader.{Reader}
+use Rattle.image_reader.specs.declared.Turn.{Turn}
 use Rattle.image_reader.specs.declared.ReadStarted.{ReadStarted}
 use Rattle.image_reader.specs.declared.Completion.{Completion}
 use Rattle.image_reader.specs.declared.Completion.the-variants.{Complete, NotComplete}
@@ -28,10 +31,31 @@ startWith answer enc chk = record { answer = answer; reader = record { enc = enc
 -- zeros where a key was refused
 abbrev pub startedBy : (ekey ckey : Expanded) → ReadStarted
 startedBy ekey ckey =
-    choose (bothTaken ekey ckey) (startWith Taken (ekey .schedule) (ckey .schedule)) (startWith KeyLength noSchedule noSchedule)
+    cond (bothTaken ekey ckey) (startWith Taken (ekey .schedule) (ckey .schedule)) (startWith KeyLength noSchedule noSchedule)
 
 unfoldable pub startOf : (ekey ckey : List ℕ) → ReadStarted
 startOf ekey ckey = startedBy (scheduleOf sBox ekey) (scheduleOf sBox ckey)
+
+-- ---- a turn
+
+abbrev pub keysOf : Reader → Keys
+keysOf r = keysUnder (r .enc .words) (r .chk .words) (record { enc = r .enc .rounds; chk = r .chk .rounds })
+
+-- it reads both editions
+abbrev pub blocksBy : Reader → BlockReader
+blocksBy r = ofBoth (keysOf r)
+
+-- the turn over the reader's schedules (crates/image_reader_turn); the reader keeps them
+abbrev pub turnAfter : Reader → BlocksRead → Turn
+turnAfter r t = record {
+  reader = record { enc = r .enc; chk = r .chk; progress = t .progress };
+  accepted = t .accepted;
+  bytes = t .bytes;
+  stop = t .stop;
+}
+
+unfoldable pub turnOf : Reader → (lent : List ℕ) (asked : ℕ) (out : List ℕ) → Turn × List ℕ
+turnOf r lent asked out = (turnAfter r (turnUnder (keysOf r) (r .progress) lent asked out .0), turnUnder (keysOf r) (r .progress) lent asked out .1)
 
 -- ---- completion
 
@@ -40,4 +64,4 @@ completionNumber Complete = 0
 completionNumber NotComplete = 17
 
 unfoldable pub completionOf : Reader → Completion
-completionOf r = choose (done (r .progress)) Complete NotComplete
+completionOf r = cond (done (r .progress)) Complete NotComplete

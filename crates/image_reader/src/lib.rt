@@ -1,9 +1,11 @@
-// The reader of release images: what it is at its start, after a turn, and when it is complete.
+// The reader of release images: started, a turn over lent blocks, and whether it is complete.
 use aes_schedule::KeyAnswer;
 use aes_schedule::KeySchedule;
+use aes_schedule::both_taken;
 use image_progress::Progress;
 use image_reader_tally::Stop;
-use image_spec::both_taken;
+use image_reader_turn::turn;
+use image_spec::Rounds;
 ghost use mathlib.Core.Path.{_≡_};
 ghost use Rattle.image_reader.specs.Calls as spec;
 
@@ -63,6 +65,36 @@ pub fn read_start(ekey: &[u8], ckey: &[u8]) -> ReadStarted
         rounds: 0,
     };
     started(KeyAnswer::KeyLength, none, none)
+}
+
+// Takes the lent blocks in, as many as asked for, up to the first that is refused; the decrypted bytes of block j of the turn
+// go into the output at 480 j. Nothing of a refused block reaches the output or the reader, so it may be offered again.
+pub fn read_turn(reader: Reader, blocks: &[u8], asked: usize, output: &mut [u8]) -> Turn
+    ensures { λ r. ⌜ (r, now (output .exit)) ≡ spec.turnOf reader (now (blocks .entry)) asked (now (output .entry)) ⌝ }
+{
+    let rounds = Rounds {
+        enc: reader.enc.rounds,
+        chk: reader.chk.rounds,
+    };
+    let done = turn(
+        &reader.enc.words,
+        &reader.chk.words,
+        rounds,
+        reader.progress,
+        blocks,
+        asked,
+        output,
+    );
+    let mut after = reader;
+    let progress = done.progress;
+    after.progress = progress;
+    let stop = done.stop;
+    Turn {
+        reader: after,
+        accepted: done.accepted,
+        bytes: done.bytes,
+        stop,
+    }
 }
 
 // Whether the last block has been accepted.

@@ -10,7 +10,8 @@ use Prim.Native.Nat.{ℕ, _+_, _*_, _%_, _≤_, _<_}
 use native.Mathlib.Omega.{arith}
 use Rattle.image_layout.specs.declared.Head.{Head}
 use Rattle.image_reasons.specs.declared.Verdict.the-variants.{Accepted}
-use Rattle.image_reader_tally.specs.Tally.{blocksReadWith, following, stepped, unstopped}
+use Rattle.image_reader_tally.specs.Tally.{blocksReadWith}
+use Rattle.image_reader_tally.specs.Model.{following, stepped, unstopped}
 use Rattle.image_reader_tally.specs.declared.Stop.{Stop}
 use Rattle.image_reader_tally.specs.declared.Stop.the-variants.{End, Asked, Lent, Room, At}
 use Rattle.image_reader_tally.specs.declared.BlocksRead.{BlocksRead}

@@ -1,6 +1,6 @@
 // What a turn of a reader has done, block by block: how far it has come, what it has counted, and how it stopped.
 use image_layout::Head;
-use image_limits::selected;
+use image_limits::edition_selected;
 use image_progress::Progress;
 use image_reasons::Reason;
 use image_reasons::Verdict;
@@ -10,6 +10,7 @@ ghost use mathlib.Core.Path.{_≡_};
 ghost use mathlib.Core.Bool.{_&&_};
 ghost use lib.Dec.{ltb, leb};
 ghost use Rattle.image_reader_tally.specs.Tally as spec;
+ghost use Rattle.image_reader_tally.specs.Model as model;
 
 // How a turn stopped: at the end of what it was to do, refused as a whole, or at a block, whose place in the turn it names.
 pub enum Stop {
@@ -64,8 +65,8 @@ pub fn may_ask(asked: usize) -> bool
 }
 
 // Whether no block has stopped a turn, and not all are done.
-pub fn goes_on(done: BlocksRead, k: usize) -> bool
-    ensures { λ r. ⌜ r ≡ spec.unstopped (done .stop) && ltb (done .accepted) k ⌝ }
+pub fn turn_goes_on(done: BlocksRead, k: usize) -> bool
+    ensures { λ r. ⌜ r ≡ model.unstopped (done .stop) && ltb (done .accepted) k ⌝ }
 {
     let stop = done.stop;
     let Stop::End = stop else {
@@ -76,8 +77,8 @@ pub fn goes_on(done: BlocksRead, k: usize) -> bool
 
 // What a turn has done after a block with this verdict, header and check. No turn of 128 blocks comes near 2^64, where both sums
 // start again at 0.
-pub fn step(done: BlocksRead, judged: Judged, check: [u8; 16]) -> BlocksRead
-    ensures { λ r. ⌜ r ≡ spec.stepped (judged .verdict) done (judged .head) check ⌝ }
+pub fn after_block(done: BlocksRead, judged: Judged, check: [u8; 16]) -> BlocksRead
+    ensures { λ r. ⌜ r ≡ model.stepped (judged .verdict) done (judged .head) check ⌝ }
 {
     let verdict = judged.verdict;
     let head = judged.head;
@@ -95,9 +96,9 @@ pub fn step(done: BlocksRead, judged: Judged, check: [u8; 16]) -> BlocksRead
 
 // The progress after a block with this header and this check, were it accepted.
 fn advanced(progress: Progress, head: Head, check: [u8; 16]) -> Progress
-    ensures { λ r. ⌜ r ≡ spec.following progress head check ⌝ }
+    ensures { λ r. ⌜ r ≡ model.following progress head check ⌝ }
 {
-    let edition = selected(head.reserved);
+    let edition = edition_selected(head.reserved);
     Progress {
         next: ((progress.next as u64 + 1) % 4294967296) as u32,
         count: head.count,

@@ -7,14 +7,14 @@ use lib.ListN.{length, take, drop, length-drop}
 use Rattle.octets.specs.Octets.{Bytes, Octets}
 use Rattle.octets.proofs.Blocks.{drop-bytes, take-octets}
 use Rattle.aes_spec.specs.Cipher.{standard}
-use Rattle.aes_spec.specs.Equivalent.{inverseWords}
+use Rattle.aes_spec.specs.Model.{inverseWords}
 use Rattle.cmac_spec.specs.Cmac.{doubled, key1, key2}
 use Rattle.image_layout.specs.Layout.{headOf}
 use Rattle.image_progress.specs.declared.Progress.{Progress}
 use Rattle.image_reasons.specs.declared.Verdict.{Verdict}
 use Rattle.image_reasons.specs.declared.Verdict.the-variants.{Accepted, Refused}
 use Rattle.image_spec.specs.Judge.{BlockReader, either, ofBoth, taken}
-use Rattle.image_spec.specs.Lent.{lentKeys}
+use Rattle.image_spec.specs.Model.{lentKeys}
 use Rattle.image_spec.specs.declared.Rounds.{Rounds}
 use Rattle.image_spec.proofs.Agree.{verdict-same, plain-same}
 use Rattle.image_reader_turn.specs.Turn.{Reading, onward, readBlocks, cut, keysUnder}

@@ -20,9 +20,11 @@ use Rattle.image_reasons.specs.declared.Reason.{Reason}
 use Rattle.image_reasons.specs.declared.Verdict.{Verdict}
 use Rattle.image_reasons.specs.declared.Verdict.the-variants.{Accepted, Refused}
 use Rattle.image_spec.specs.Judge.{taken, BlockReader}
-use Rattle.image_reader_tally.specs.Tally.{blocksReadWith, following, stepped, unstopped}
+use Rattle.image_reader_tally.specs.Tally.{blocksReadWith}
+use Rattle.image_reader_tally.specs.Model.{following, stepped, unstopped}
 use Rattle.image_reader_tally.proofs.Laws.{stepped-plain}
-use Rattle.image_reader_turn.specs.Turn.{Reading, later, onward, readBlocks, cut, blocksRead, partAfter}
+use Rattle.image_reader_turn.specs.Turn.{Reading, later, onward, readBlocks, cut, blocksRead}
+use Rattle.image_reader_turn.specs.Model.{partAfter}
 use Rattle.image_reader_tally.specs.declared.Stop.{Stop}
 use Rattle.image_reader_tally.specs.declared.Stop.the-variants.{End, Asked, Lent, Room, At}
 use Rattle.image_reader_tally.specs.declared.BlocksRead.{BlocksRead}

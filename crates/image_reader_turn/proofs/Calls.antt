@@ -1,5 +1,5 @@
 -- A turn's own tests, and where none of them refuses. Assumes nothing.
-use mathlib.Core.Path.{_≡_, ap₂, _∙_}
+use mathlib.Core.Path.{_≡_, _∙_}
 use mathlib.Core.Bool.{true, false, _&&_}
 use mathlib.Core.List.{List}
 use Prim.Native.Nat.{ℕ, _*_, _%_, _≤_}
@@ -7,10 +7,10 @@ use borrow.Author.Tests.{leb-true}
 use lib.Dec.{eqb, ltb, leb}
 use lib.ListN.{length}
 use Rattle.octets.proofs.Both.{and-true}
-use Rattle.octets.specs.Octets.{over}
 use Rattle.image_progress.specs.declared.Progress.{Progress}
 use Rattle.image_spec.specs.Judge.{Keys, ofBoth}
-use Rattle.image_reader_turn.specs.Turn.{readBlocks, cut, handled, whole, blocksRead, turnUnder}
+use Rattle.image_reader_turn.specs.Turn.{cut, handled, whole, turnUnder}
+use Rattle.image_reader_turn.specs.Model.{readInto}
 use Rattle.image_reader_tally.specs.declared.BlocksRead.{BlocksRead}
 use Rattle.image_reader_tally.specs.declared.Stop.the-variants.{Asked, Lent, Room}
 
@@ -32,9 +32,8 @@ module _ (n : Keys) (s : Progress) (given : List ℕ) (asked : ℕ) (out : List 
       unfolding turnUnder
       turn-room e3 = let f : ltb (length out) (handled given asked * 480) ≡ true = rw (← ek) e3 in rw (e1, e2, f)
 
-      pub turn-read : ltb (length out) (k * 480) ≡ false → (t : BlocksRead) (o : List ℕ) → t ≡ blocksRead (readBlocks (ofBoth n) s (cut k given))
-          → o ≡ over (readBlocks (ofBoth n) s (cut k given) .out) out → (t, o) ≡ turnUnder n s given asked out
+      pub turn-read : ltb (length out) (k * 480) ≡ false → (t : BlocksRead × List ℕ) → t ≡ readInto (ofBoth n) s (cut k given) out → t ≡ turnUnder n s given asked out
       unfolding turnUnder
-      turn-read e3 t o et eo =
+      turn-read e3 t et =
           let f : ltb (length out) (handled given asked * 480) ≡ false = rw (← ek) e3 in
-          ap₂ (λ (x : BlocksRead) (y : List ℕ). (x, y)) et eo ∙ rw (e1, e2, f, ek)
+          et ∙ rw (e1, e2, f, ek)

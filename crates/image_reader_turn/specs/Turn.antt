@@ -1,10 +1,10 @@
 -- A turn over blocks, until the first that is refused (docs/IMAGE.md). Assumes nothing: these are definitions.
 use Prim.Native.Nat.{ℕ, zero, suc, _+_, _*_, _/_, _%_, min}
-use mathlib.Core.Bool.{_&&_, not}
+use mathlib.Core.Bool.{_&&_, not, cond}
 use mathlib.Core.List.{List, [], _∷_, _++_}
 use lib.Dec.{eqb, ltb, leb}
 use lib.ListN.{length, take, drop}
-use Rattle.octets.specs.Octets.{choose, over}
+use Rattle.octets.specs.Octets.{over}
 use Rattle.aes_spec.specs.Cipher.{standard}
 use Rattle.cmac_spec.specs.Cmac.{cmac}
 use Rattle.image_layout.specs.Layout.{bodySize, blockSize, headOf}
@@ -12,7 +12,7 @@ use Rattle.image_progress.specs.declared.Progress.{Progress}
 use Rattle.image_reasons.specs.declared.Verdict.{Verdict}
 use Rattle.image_reasons.specs.declared.Verdict.the-variants.{Accepted, Refused}
 use Rattle.image_spec.specs.Judge.{Keys, BlockReader, ofBoth, taken}
-use Rattle.image_spec.specs.Lent.{usable}
+use Rattle.image_spec.specs.Model.{usable}
 use Rattle.image_spec.specs.declared.Rounds.{Rounds}
 use Rattle.image_reader_tally.specs.Tally.{blocksReadWith}
 use Rattle.image_reader_tally.specs.declared.BlocksRead.{BlocksRead}
@@ -56,11 +56,6 @@ unfoldable pub cut : ℕ → List ℕ → List (List ℕ)
 cut zero s = []
 cut (suc n) s = take blockSize s ∷ cut n (drop blockSize s)
 
--- what the part of the output that is a block's holds after it, as the code has it
-abbrev pub partAfter : Verdict → (plain part : List ℕ) → List ℕ
-partAfter Accepted plain part = plain
-partAfter (Refused reason) plain part = part
-
 -- ---- a turn
 
 -- AES under the two schedules; they are usable where keys can have given them
@@ -85,7 +80,7 @@ whole s why = blocksReadWith s 0 0 why
 -- the answer and the output: 5, 6, 4, in that order, and then the blocks
 unfoldable pub turnUnder : Keys → Progress → (lent : List ℕ) (asked : ℕ) (out : List ℕ) → BlocksRead × List ℕ
 turnUnder k s lent asked out =
-    choose (not (ltb 0 asked && leb asked 128)) (whole s Asked, out)
-    (choose (not (eqb (length lent % blockSize) 0)) (whole s Lent, out)
-    (choose (ltb (length out) (handled lent asked * bodySize)) (whole s Room, out)
+    cond (not (ltb 0 asked && leb asked 128)) (whole s Asked, out)
+    (cond (not (eqb (length lent % blockSize) 0)) (whole s Lent, out)
+    (cond (ltb (length out) (handled lent asked * bodySize)) (whole s Room, out)
     (blocksRead (readingBy k s lent asked), over (readingBy k s lent asked .out) out)))

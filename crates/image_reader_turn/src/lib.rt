@@ -5,22 +5,21 @@ use image_block_open::open_block;
 use image_progress::Progress;
 use image_reader_tally::BlocksRead;
 use image_reader_tally::Stop;
+use image_reader_tally::after_block;
 use image_reader_tally::blocks_read;
-use image_reader_tally::goes_on;
 use image_reader_tally::may_ask;
-use image_reader_tally::step;
+use image_reader_tally::turn_goes_on;
 use image_reasons::Verdict;
 use image_spec::Rounds;
 use octets_block::load;
+use octets_slice::smaller;
 ghost use mathlib.Core.Path.{_≡_};
 ghost use Prim.Native.Nat.{_*_, _≤_, min};
-ghost use lib.ListN.{length, drop};
-ghost use Rattle.octets.specs.Octets.{over};
-ghost use Rattle.image_layout.specs.Layout.{checkAt, headOf};
+ghost use lib.ListN.{length};
 ghost use Rattle.image_spec.specs.Judge.{ofBoth};
-ghost use Rattle.image_spec.specs.Lent.{lentKeys};
-ghost use Rattle.image_reader_tally.specs.Tally.{stepped};
+ghost use Rattle.image_spec.specs.Model.{lentKeys};
 ghost use Rattle.image_reader_turn.specs.Turn as spec;
+ghost use Rattle.image_reader_turn.specs.Model as model;
 
 // Takes the lent blocks in, as many as asked for, up to the first that is refused; the decrypted bytes of block j of the turn
 // go into the output at 480 j. Refused as a whole it leaves progress and output as they were. One lifetime for both schedules lets
@@ -42,17 +41,18 @@ pub fn turn<'a>(
     if blocks.len() % 512 != 0 {
         return blocks_read(progress, 0, 0, Stop::Lent);
     }
-    let k = smaller(asked, blocks.len() / 512);
+    let k = handled(asked, blocks.len() / 512);
     if output.len() < k * 480 {
         return blocks_read(progress, 0, 0, Stop::Room);
     }
     read_under(ewords, cwords, rounds, progress, blocks, k, output)
 }
 
-fn smaller(a: usize, b: usize) -> usize
-    ensures { λ r. ⌜ r ≡ min a b ⌝ }
+// How many blocks a turn handles that is asked for so many, with so many lent.
+fn handled(asked: usize, lent: usize) -> usize
+    ensures { λ r. ⌜ r ≡ min asked lent ⌝ }
 {
-    if a < b { a } else { b }
+    smaller(asked, lent)
 }
 
 // The blocks of a turn that has passed its own tests: the schedule for the way back and the subkeys are made once, and lent.
@@ -66,8 +66,7 @@ fn read_under(
     output: &mut [u8],
 ) -> BlocksRead
     requires { ⌜ (k * 512 ≤ length (now blocks)) × (k * 480 ≤ length (now output)) × (k ≤ 128) ⌝ }
-    ensures answer { λ r. ⌜ r ≡ spec.blocksRead (spec.readBlocks (ofBoth (spec.keysUnder (now (ewords .entry)) (now (cwords .entry)) rounds)) progress (spec.cut k (now (blocks .entry)))) ⌝ }
-    ensures handed { λ _. ⌜ now (output .exit) ≡ over (spec.readBlocks (ofBoth (spec.keysUnder (now (ewords .entry)) (now (cwords .entry)) rounds)) progress (spec.cut k (now (blocks .entry))) .out) (now (output .entry)) ⌝ }
+    ensures { λ r. ⌜ (r, now (output .exit)) ≡ model.readInto (ofBoth (spec.keysUnder (now (ewords .entry)) (now (cwords .entry)) rounds)) progress (spec.cut k (now (blocks .entry))) (now (output .entry)) ⌝ }
 {
     let mut dwords = [0u32; 60];
     inverse_words(ewords, rounds.enc, &mut dwords);
@@ -101,11 +100,10 @@ fn read_blocks(
     output: &mut [u8],
 ) -> BlocksRead
     requires { ⌜ (k * 512 ≤ length (now blocks)) × (k * 480 ≤ length (now output)) × (k ≤ 128) ⌝ }
-    ensures answer { λ r. ⌜ r ≡ spec.blocksRead (spec.readBlocks (ofBoth (lentKeys (now (ewords .entry)) (now (dwords .entry)) (now (cwords .entry)) (now (key1 .entry)) (now (key2 .entry)) rounds)) progress (spec.cut k (now (blocks .entry)))) ⌝ }
-    ensures handed { λ _. ⌜ now (output .exit) ≡ over (spec.readBlocks (ofBoth (lentKeys (now (ewords .entry)) (now (dwords .entry)) (now (cwords .entry)) (now (key1 .entry)) (now (key2 .entry)) rounds)) progress (spec.cut k (now (blocks .entry))) .out) (now (output .entry)) ⌝ }
+    ensures { λ r. ⌜ (r, now (output .exit)) ≡ model.readInto (ofBoth (lentKeys (now (ewords .entry)) (now (dwords .entry)) (now (cwords .entry)) (now (key1 .entry)) (now (key2 .entry)) rounds)) progress (spec.cut k (now (blocks .entry))) (now (output .entry)) ⌝ }
 {
     let mut done = blocks_read(progress, 0, 0, Stop::End);
-    while goes_on(done, k) {
+    while turn_goes_on(done, k) {
         let at = done.accepted * 512;
         let to = done.accepted * 480;
         let next = read_block(
@@ -137,8 +135,7 @@ fn read_block(
     part: &mut [u8],
 ) -> BlocksRead
     requires { ⌜ (length (now block) ≡ 512) × (length (now part) ≡ 480) ⌝ }
-    ensures answer { λ r. ⌜ r ≡ stepped (ofBoth (lentKeys (now (ewords .entry)) (now (dwords .entry)) (now (cwords .entry)) (now (key1 .entry)) (now (key2 .entry)) rounds) .verdict (done .progress) (now (block .entry))) done (headOf (now (block .entry))) (drop checkAt (now (block .entry))) ⌝ }
-    ensures handed { λ _. ⌜ now (part .exit) ≡ spec.partAfter (ofBoth (lentKeys (now (ewords .entry)) (now (dwords .entry)) (now (cwords .entry)) (now (key1 .entry)) (now (key2 .entry)) rounds) .verdict (done .progress) (now (block .entry))) (ofBoth (lentKeys (now (ewords .entry)) (now (dwords .entry)) (now (cwords .entry)) (now (key1 .entry)) (now (key2 .entry)) rounds) .plain (now (block .entry))) (now (part .entry)) ⌝ }
+    ensures { λ r. ⌜ (r, now (part .exit)) ≡ model.blockInto (ofBoth (lentKeys (now (ewords .entry)) (now (dwords .entry)) (now (cwords .entry)) (now (key1 .entry)) (now (key2 .entry)) rounds)) done (now (block .entry)) (now (part .entry)) ⌝ }
 {
     let judged = judge(
         ewords,
@@ -151,7 +148,7 @@ fn read_block(
         block,
     );
     let verdict = judged.verdict;
-    let next = step(done, judged, load(block, 496));
+    let next = after_block(done, judged, load(block, 496));
     if let Verdict::Accepted = verdict {
         open_block(ewords, dwords, rounds.enc, block, part);
     }

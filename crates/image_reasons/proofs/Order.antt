@@ -1,10 +1,9 @@
 -- Tests asked in order. Assumes nothing.
 use mathlib.Core.Path.{_≡_, refl}
-use mathlib.Core.Bool.{Bool, true, false}
+use mathlib.Core.Bool.{Bool, true, false, cond}
 use Prim.Native.Nat.{ℕ}
 use native.Mathlib.Omega.{arith}
 use mathlib.Core.List.{List, [], _∷_, _++_}
-use Rattle.octets.specs.Octets.{choose}
 use Rattle.image_reasons.specs.Reasons.{firstOf}
 use Rattle.image_reasons.specs.declared.Reason.{Reason}
 use Rattle.image_reasons.specs.declared.Verdict.{Verdict}
@@ -36,7 +35,7 @@ after-tests [] us = refl
 after-tests (t ∷ ts) us = go (t .0) (after-tests ts us)
   where
     go : (b : Bool) → firstOf (ts ++ us) ≡ unless (firstOf ts) (firstOf us)
-        → choose b (Refused (t .1)) (firstOf (ts ++ us)) ≡ unless (choose b (Refused (t .1)) (firstOf ts)) (firstOf us)
+        → cond b (Refused (t .1)) (firstOf (ts ++ us)) ≡ unless (cond b (Refused (t .1)) (firstOf ts)) (firstOf us)
     go true e = refl
     go false e = e
 
@@ -50,7 +49,7 @@ unfolding firstOf
 all-false [] e = tt
 all-false (t ∷ ts) e = go (t .0) refl e (all-false ts)
   where
-    go : (b : Bool) → t .0 ≡ b → choose b (Refused (t .1)) (firstOf ts) ≡ Accepted → (firstOf ts ≡ Accepted → AllFalse ts) → (t .0 ≡ false) × AllFalse ts
+    go : (b : Bool) → t .0 ≡ b → cond b (Refused (t .1)) (firstOf ts) ≡ Accepted → (firstOf ts ≡ Accepted → AllFalse ts) → (t .0 ≡ false) × AllFalse ts
     go true f q r = let z : _≡_ {A = ℕ} 0 1 = cc in absurd (omega arith)
     go false f q r = (f, r q)
 

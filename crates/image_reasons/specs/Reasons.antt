@@ -1,8 +1,7 @@
 -- The reasons, and tests asked in order (docs/REFUSALS.md). Assumes nothing: these are definitions.
 use Prim.Native.Nat.{ℕ}
-use mathlib.Core.Bool.{Bool}
+use mathlib.Core.Bool.{Bool, cond}
 use mathlib.Core.List.{List, [], _∷_}
-use Rattle.octets.specs.Octets.{choose}
 use Rattle.image_reasons.specs.declared.Reason.{Reason}
 use Rattle.image_reasons.specs.declared.Value.{Value}
 use Rattle.image_reasons.specs.declared.Value.the-variants.{Held, NoValue}
@@ -47,4 +46,4 @@ valueOf (v ∷ vs) = Held v
 -- tests, each with the reason that it gives where it holds: the first that holds refuses
 unfoldable pub firstOf : List (Bool × Reason) → Verdict
 firstOf [] = Accepted
-firstOf (t ∷ ts) = choose (t .0) (Refused (t .1)) (firstOf ts)
+firstOf (t ∷ ts) = cond (t .0) (Refused (t .1)) (firstOf ts)

@@ -1,6 +1,6 @@
 -- Over the schedules and subkeys of two keys, what the code opens, judges and seals is what AES opens, judges and seals. Assumes nothing.
 use mathlib.Core.Path.{_≡_, refl, sym, ap, ap₂, _∙_}
-use mathlib.Core.Bool.{Bool, true, false}
+use mathlib.Core.Bool.{Bool, true, false, cond}
 use mathlib.Core.List.{List, _++_}
 use Prim.Native.Nat.{ℕ, _-_}
 use native.Mathlib.Nat.{zero-lt-suc}
@@ -8,13 +8,13 @@ use native.Mathlib.Omega.{arith}
 use borrow.Author.Tests.{not-false}
 use lib.ListN.{length, take, drop, length-drop}
 use Rattle.octets.proofs.Both.{and-true}
-use Rattle.octets.specs.Octets.{choose, same, Octets}
+use Rattle.octets.specs.Octets.{same, Octets}
 use Rattle.octets.specs.Blocks.{BlockCipher, Lawful}
 use Rattle.octets.proofs.Blocks.{drop-bytes, take-octets}
 use Rattle.aes_schedule.specs.Schedule.{roundCount}
 use Rattle.aes_spec.proofs.Aes.{aes-lawful}
 use Rattle.aes_spec.specs.Cipher.{standard}
-use Rattle.aes_spec.specs.Equivalent.{inverseWords}
+use Rattle.aes_spec.specs.Model.{inverseWords}
 use Rattle.aes_spec.proofs.Equivalent.{Agree}
 use Rattle.modes_spec.specs.Modes.{moded}
 use Rattle.modes_spec.specs.declared.Operation.the-variants.{CbcDecrypt}
@@ -31,7 +31,7 @@ use Rattle.image_reasons.proofs.Order.{all-false}
 use Rattle.image_spec.specs.Edition.{Edition}
 use Rattle.image_spec.specs.Sealed.{front, sealed, opened, checks, zeroAfter}
 use Rattle.image_spec.specs.Judge.{Keys, tests, judge}
-use Rattle.image_spec.specs.Lent.{usable, lentMac, lentKeys}
+use Rattle.image_spec.specs.Model.{usable, lentMac, lentKeys}
 use Rattle.image_spec.specs.declared.Rounds.{Rounds}
 use Rattle.image_spec.proofs.Schedules.{both-ways}
 
@@ -78,7 +78,7 @@ module _ (ew dw cw k1 k2 : List ℕ) (n : Rounds) (pd : dw ≡ inverseWords ew (
   both-agree = rw pd (both-ways ew (n .enc))
 
   -- both refuse every block where no keys gave the schedules
-  refused : (k : Keys) → k .usable ≡ false → judge k ed s b ≡ choose (closed s) (Refused AfterLast) (Refused CheckWrong)
+  refused : (k : Keys) → k .usable ≡ false → judge k ed s b ≡ cond (closed s) (Refused AfterLast) (Refused CheckWrong)
   unfolding judge firstOf
   refused k e = rw e
 

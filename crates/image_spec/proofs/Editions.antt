@@ -1,6 +1,6 @@
 -- The editions by their numbers are the two, and what the code covers is what they cover. Assumes nothing.
 use mathlib.Core.Path.{_≡_, refl, ap, _∙_}
-use mathlib.Core.Bool.{Bool, true, false}
+use mathlib.Core.Bool.{Bool, true, false, cond}
 use mathlib.Core.List.{List, []}
 use Prim.Native.Nat.{ℕ, _-_, _≤_}
 use native.Mathlib.Nat.{sub-zero}
@@ -8,7 +8,7 @@ use native.Mathlib.Omega.{arith}
 use lib.Dec.{eqb}
 use lib.ListN.{length, take}
 use lib.Seq.{take-all}
-use Rattle.octets.specs.Octets.{choose, Bytes}
+use Rattle.octets.specs.Octets.{Bytes}
 use Rattle.image_limits.specs.Marks.{markOf, tailSize}
 use Rattle.image_spec.specs.Edition.{one, two, tailOf, edition}
 
@@ -25,7 +25,7 @@ pub tail-taken : (n : ℕ) (last : List ℕ) → length last ≡ 16 → take (ta
 unfolding tailSize tailOf
 tail-taken n last l = go (eqb n 2)
   where
-    go : (t : Bool) → take (choose t 16 0) last ≡ choose t last []
+    go : (t : Bool) → take (cond t 16 0) last ≡ cond t last []
     go true = take-all 16 last (omega arith)
     go false = refl
 
@@ -37,7 +37,7 @@ pub tail-size-most : (n : ℕ) → tailSize n ≤ 16
 unfolding tailSize
 tail-size-most n = go (eqb n 2)
   where
-    go : (t : Bool) → choose t 16 0 ≤ 16
+    go : (t : Bool) → cond t 16 0 ≤ 16
     go true = omega arith
     go false = omega arith
 
@@ -46,6 +46,6 @@ pub tail-bytes : (n : ℕ) (last : List ℕ) → Bytes last → Bytes (tailOf n 
 unfolding tailOf
 tail-bytes n last b = go (eqb n 2)
   where
-    go : (t : Bool) → Bytes (choose t last [])
+    go : (t : Bool) → Bytes (cond t last [])
     go true = b
     go false = λ k. omega arith

@@ -19,7 +19,7 @@ use Rattle.modes_spec.specs.declared.Operation.the-variants.{CbcDecrypt}
 use Rattle.modes_spec.proofs.Pieces.{after-more}
 use Rattle.modes_spec.proofs.Joining.{made-split}
 use Rattle.image_spec.specs.Sealed.{opened, allZero, zeroAfter}
-use Rattle.image_spec.specs.Lent.{filledOut, openedOver}
+use Rattle.image_spec.specs.Model.{filledOut, openedOver}
 use Rattle.image_spec.proofs.Sizes.{Sixteen, made-size, body-length, opened-made, opened-size}
 
 -- ---- zeros from a place on, and from the place i on that was reached

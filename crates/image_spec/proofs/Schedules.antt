@@ -1,6 +1,6 @@
 -- Over any schedule, of whatever length, and the one that it makes for the way back, the two ways are AES. Assumes nothing.
 use mathlib.Core.Path.{_≡_, refl, sym, ap, _∙_}
-use mathlib.Core.Bool.{Bool, true, false, _&&_}
+use mathlib.Core.Bool.{Bool, true, false, _&&_, cond}
 use mathlib.Core.List.{List}
 use mathlib.Core.Logic.{⊎-elim}
 use Prim.Native.Nat.{ℕ, _+_, _*_, _≤_, _<_}
@@ -8,7 +8,7 @@ use native.Mathlib.Omega.{arith}
 use lib.Dec.{leb, ltb}
 use lib.ListN.{length, getD, replicate, drop-of-length-le}
 use lib.Seq.{getD-drop}
-use Rattle.octets.specs.Octets.{xor, choose, Octets}
+use Rattle.octets.specs.Octets.{xor, Octets}
 use Rattle.octets.specs.Words.{word}
 use Rattle.octets.proofs.Xor.{lt-or-le}
 use Rattle.field.specs.Field.{xTimes, productWithin, _•_}
@@ -18,7 +18,7 @@ use Rattle.aes_mix.specs.Mixing.{row, column, invMixColumn}
 use Rattle.aes_schedule.specs.Schedule.{roundCount}
 use Rattle.aes_spec.specs.State.{aes}
 use Rattle.aes_spec.specs.Cipher.{invCipher, decryptBlock, standard}
-use Rattle.aes_spec.specs.Equivalent.{mixedBackAt, mixedBack, equivalentWords, inverseWords, eqInvCipher, eqDecryptBlock, equivalentCipher}
+use Rattle.aes_spec.specs.Model.{mixedBackAt, mixedBack, equivalentWords, inverseWords, eqInvCipher, eqDecryptBlock, equivalentCipher}
 use Rattle.aes_spec.proofs.Rounds.{round-count}
 use Rattle.aes_spec.proofs.Equivalent.{Agree, BackOf, length-mixed, mixed-at, mixed-within, mixed-before, mixed-after, eq-inv-cipher}
 
@@ -28,7 +28,7 @@ past s i h =
     let e : i ≡ i + 0 = omega arith in
     ap (λ (k : ℕ). getD s k 0) e ∙ sym (getD-drop i s 0 0) ∙ ap (λ (t : List ℕ). getD t 0 0) (drop-of-length-le s {i = i} h)
 
-zero-back : (k : Bool) → choose k (invMixColumn 0) 0 ≡ 0
+zero-back : (k : Bool) → cond k (invMixColumn 0) 0 ≡ 0
 unfolding invMixColumn column row word xor _•_ productWithin xTimes
 zero-back true = refl
 zero-back false = refl
@@ -52,7 +52,7 @@ module _ (w : List ℕ) (nr : ℕ) where
   decrypts b o = on (roundCount nr) refl
     where
       on : (k : Bool) → roundCount nr ≡ k
-          → choose k (eqInvCipher aes invSBox (choose k (equivalentWords aes w nr) w) nr b) (replicate 16 0) ≡ choose k (invCipher aes invSBox w nr b) (replicate 16 0)
+          → cond k (eqInvCipher aes invSBox (cond k (equivalentWords aes w nr) w) nr b) (replicate 16 0) ≡ cond k (invCipher aes invSBox w nr b) (replicate 16 0)
       on true known = let p = round-count nr known .0 in eq-inv-cipher aes invSBox invSBox-lt w (equivalentWords aes w nr) nr (back-of p) p o
       on false known = refl
 

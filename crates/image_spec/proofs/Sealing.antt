@@ -8,7 +8,7 @@ use lib.ListN.{length, take, drop, length-append, length-drop}
 use lib.Seq.{take-all, take-at, drop-at, drop-drop, length-take-le}
 use Rattle.octets.specs.Octets.{padTo, over}
 use Rattle.octets.specs.Blocks.{BlockCipher}
-use Rattle.octets_block.specs.Blocks.{blockPut}
+use Rattle.octets_slice.specs.Slices.{copied}
 use Rattle.octets_block.proofs.Laws.{block-put}
 use Rattle.modes_spec.specs.Modes.{moded}
 use Rattle.modes_spec.specs.declared.Operation.the-variants.{CbcEncrypt}
@@ -16,12 +16,12 @@ use Rattle.image_layout.specs.Layout.{headBytes}
 use Rattle.image_layout.specs.declared.Head.{Head}
 use Rattle.image_layout.proofs.Laws.{head-octets}
 use Rattle.image_spec.specs.Sealed.{Mac, front, sealed}
-use Rattle.image_spec.specs.Lent.{sealedOver}
+use Rattle.image_spec.specs.Model.{sealedOver}
 
 -- a block in the place of 16 bytes
-put-is : (s : List ℕ) (at : ℕ) (b : List ℕ) → at + 16 ≤ length s → length b ≡ 16 → blockPut s at b ≡ take at s ++ (b ++ drop (at + 16) s)
+put-is : (s : List ℕ) (at : ℕ) (b : List ℕ) → at + 16 ≤ length s → length b ≡ 16 → copied b at s ≡ take at s ++ (b ++ drop (at + 16) s)
 put-is s at b h e =
-    block-put s at h b ∙ ap (λ (x : List ℕ). take at s ++ x ++ drop (at + 16) s) (take-all 16 b (omega arith)) ∙ append-assoc (take at s) b (drop (at + 16) s)
+    block-put s at h b e ∙ ap (λ (x : List ℕ). take at s ++ x ++ drop (at + 16) s) (take-all 16 b (omega arith)) ∙ append-assoc (take at s) b (drop (at + 16) s)
 
 module _ (c : BlockCipher) (k : Mac) (tail : List ℕ) (h : Head) (payload out : List ℕ) where
   pub seal-long : 480 < length payload → out ≡ sealedOver c k tail h payload out
@@ -38,9 +38,9 @@ module _ (c : BlockCipher) (k : Mac) (tail : List ℕ) (h : Head) (payload out :
       unfolding sealedOver
       seal-fits o e = rw (le-leb (length payload) 480 lp, le-leb 512 (length out) lo) e
 
-      module _ (first iv plain o1 body o2 made o3 : List ℕ) (e1 : first ≡ headBytes h) (e2 : iv ≡ c .enc first) (e3 : plain ≡ padTo 480 payload) (e4 : o1 ≡ blockPut out 0 first)
+      module _ (first iv plain o1 body o2 made o3 : List ℕ) (e1 : first ≡ headBytes h) (e2 : iv ≡ c .enc first) (e3 : plain ≡ padTo 480 payload) (e4 : o1 ≡ copied first 0 out)
           (e5 : body ≡ moded 16 c CbcEncrypt iv plain) (l5 : length body ≡ 480)
-          (e6 : o2 ≡ take 16 o1 ++ (body ++ drop 480 (drop 16 o1))) (e7 : made ≡ k (take 496 o2 ++ tail)) (l7 : length made ≡ 16) (e8 : o3 ≡ blockPut o2 496 made) where
+          (e6 : o2 ≡ take 16 o1 ++ (body ++ drop 480 (drop 16 o1))) (e7 : made ≡ k (take 496 o2 ++ tail)) (l7 : length made ≡ 16) (e8 : o3 ≡ copied made 496 o2) where
         first-size : length first ≡ 16
         first-size = ap length e1 ∙ head-octets h .size
 
@@ -83,7 +83,7 @@ module _ (c : BlockCipher) (k : Mac) (tail : List ℕ) (h : Head) (payload out :
             ∙ ap₂ (λ (x : List ℕ) (n : ℕ). x ++ drop n out) sealed-is (sym sealed-size)
 
 -- the part of the output that takes the body, where it is lent
-pub middle-size : (h : Head) (out o1 : List ℕ) → 512 ≤ length out → o1 ≡ blockPut out 0 (headBytes h) → length (take 480 (drop 16 o1)) ≡ 480
+pub middle-size : (h : Head) (out o1 : List ℕ) → 512 ≤ length out → o1 ≡ copied (headBytes h) 0 out → length (take 480 (drop 16 o1)) ≡ 480
 middle-size h out o1 lo e =
     let p = put-is out 0 (headBytes h) (omega arith) (head-octets h .size) in
     length-take-le 480 (drop 16 o1) (omega (arith, length-drop 16 o1, ap length (e ∙ p), length-append (headBytes h) (drop 16 out), head-octets h .size, length-drop 16 out))

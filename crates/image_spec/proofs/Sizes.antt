@@ -1,12 +1,12 @@
 -- How long the parts of a block are, over ciphers that give 16 bytes whatever they are given, as AES does under any schedule. Assumes nothing.
 use mathlib.Core.Path.{_≡_, refl, ap, _∙_}
-use mathlib.Core.Bool.{Bool, true, false}
+use mathlib.Core.Bool.{Bool, true, false, cond}
 use mathlib.Core.List.{List, _++_}
 use Prim.Native.Nat.{ℕ, zero, suc, _+_, _*_, _/_, _%_, _≤_}
 use native.Mathlib.Omega.{arith}
 use lib.ListN.{length, getD, take, drop, replicate, length-append, length-drop}
 use lib.Seq.{length-take-le}
-use Rattle.octets.specs.Octets.{choose, xor}
+use Rattle.octets.specs.Octets.{xor}
 use Rattle.octets.specs.Words.{byte}
 use Rattle.octets.specs.Blocks.{_⊕_, BlockCipher}
 use Rattle.octets.proofs.Blocks.{⊕-length}
@@ -15,7 +15,7 @@ use Rattle.octets.proofs.Fill.{length-tabulate}
 use Rattle.aes_schedule.specs.Schedule.{roundCount}
 use Rattle.aes_spec.specs.State.{aes, at, addRoundKey}
 use Rattle.aes_spec.specs.Cipher.{cipher, encryptBlock}
-use Rattle.aes_spec.specs.Equivalent.{eqInvCipher, eqDecryptBlock}
+use Rattle.aes_spec.specs.Model.{eqInvCipher, eqDecryptBlock}
 use Rattle.aes_sbox.specs.Sbox.{sBox}
 use Rattle.modes_spec.specs.Pieces.{outputOf}
 use Rattle.modes_spec.specs.Modes.{machine}
@@ -23,7 +23,7 @@ use Rattle.modes_spec.specs.declared.Operation.the-variants.{CbcDecrypt}
 use Rattle.modes_spec.proofs.Pieces.{count-whole}
 use Rattle.cmac_spec.specs.Cmac.{endedBy, cmacBy}
 use Rattle.image_spec.specs.Sealed.{Mac, opened, checks}
-use Rattle.image_spec.specs.Lent.{lentMac}
+use Rattle.image_spec.specs.Model.{lentMac}
 
 -- a function that gives blocks of 16, whatever it is given
 abbrev pub Sixteen : (List ℕ → List ℕ) → Type 0
@@ -42,7 +42,7 @@ unfolding eqInvCipher
 back-sized inv w nr x = added-sized w 0 _
 
 -- such a block, or zeros
-chosen-sized : (k : Bool) (s : List ℕ) → length s ≡ 16 → length (choose k s (replicate 16 0)) ≡ 16
+chosen-sized : (k : Bool) (s : List ℕ) → length s ≡ 16 → length (cond k s (replicate 16 0)) ≡ 16
 chosen-sized true s e = e
 chosen-sized false s e = refl
 

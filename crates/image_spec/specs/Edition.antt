@@ -1,9 +1,9 @@
 -- What an edition of the format is (docs/IMAGE.md). Assumes nothing: these are definitions.
+use mathlib.Core.Bool.{cond}
 use Prim.Native.Nat.{ℕ}
 use mathlib.Core.List.{List, []}
 use lib.Dec.{eqb}
 use lib.ListN.{replicate}
-use Rattle.octets.specs.Octets.{choose}
 use Rattle.image_limits.specs.Marks.{markOf}
 
 -- the number in bytes 14 and 15 of each block, and what the check covers behind bytes 0 to 495: a function of the check of the block before
@@ -27,7 +27,7 @@ noCheck = replicate 16 0
 
 -- what the check covers in an edition, on the check of the block before
 unfoldable pub tailOf : ℕ → List ℕ → List ℕ
-tailOf n last = choose (eqb n 2) last []
+tailOf n last = cond (eqb n 2) last []
 
 abbrev pub edition : ℕ → Edition
 edition n = record { mark = markOf n; tail = tailOf n }

@@ -1,4 +1,4 @@
 pub mod Edition
 pub mod Sealed
 pub mod Judge
-pub mod Lent
+pub mod Model

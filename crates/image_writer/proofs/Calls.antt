@@ -1,6 +1,6 @@
 -- From what the parts of a call give to what the call is to give. Assumes nothing.
 use mathlib.Core.Path.{_≡_, refl, sym, ap, ap₂, _∙_}
-use mathlib.Core.Bool.{Bool, true, false, _&&_, _||_, not}
+use mathlib.Core.Bool.{Bool, true, false, _&&_, _||_, not, cond}
 use mathlib.Core.List.{List, [], _∷_}
 use Prim.Native.Nat.{ℕ, _+_, _≤_, _<_}
 use native.Mathlib.Omega.{arith}
@@ -10,7 +10,7 @@ use borrow.Author.Tests.{eqb-true, ltb-false, leb-true, le-leb}
 use lib.Dec.{eqb, ltb, leb}
 use lib.ListN.{length}
 use Rattle.octets.proofs.Both.{and-true}
-use Rattle.octets.specs.Octets.{Bytes, choose, over}
+use Rattle.octets.specs.Octets.{Bytes, over}
 use Rattle.octets.proofs.Blocks.{zeros-bytes}
 use Rattle.aes_sbox.specs.Sbox.{sBox}
 use Rattle.aes_schedule.specs.Schedule.{scheduleOf, keyNumber}
@@ -20,11 +20,11 @@ use Rattle.image_limits.specs.Marks.{isEdition, markOf}
 use Rattle.image_limits.specs.Fits.{countFits, lengthFits}
 use Rattle.image_spec.specs.Edition.{noCheck, tailOf, edition}
 use Rattle.image_spec.specs.Sealed.{headFor}
-use Rattle.image_spec.specs.Lent.{bothTaken, sealedOver}
+use Rattle.image_spec.specs.Model.{bothTaken, sealedOver}
 use Rattle.image_spec.proofs.Agree.{sealed-same}
 use Rattle.image_writer_answer.specs.Answers.{writeRuled, lastFor}
 use Rattle.image_writer.specs.Calls.{writeAnswer, writeOutput}
-use Rattle.image_writer.specs.Lent.{sealedUnder}
+use Rattle.image_writer.specs.Model.{sealedUnder}
 use Rattle.image_writer_answer.specs.declared.WriteAnswer.{WriteAnswer}
 use Rattle.image_writer_answer.specs.declared.WriteAnswer.the-variants.{Written, WriteKey, WriteCount, WriteNumber, WriteLength, WriteEdition, WriteRoom}
 use Rattle.image_writer_answer.specs.declared.Numbers.{Numbers}
@@ -36,7 +36,7 @@ pub last-bytes : (number : ℕ) (previous : List ℕ) → Bytes previous → Byt
 unfolding lastFor
 last-bytes number previous b = go (eqb number 0)
   where
-    go : (t : Bool) → Bytes (choose t noCheck previous)
+    go : (t : Bool) → Bytes (cond t noCheck previous)
     go true = zeros-bytes 16
     go false = b
 
@@ -44,7 +44,7 @@ pub last-size : (number : ℕ) (previous : List ℕ) → length previous ≡ 16 
 unfolding lastFor
 last-size number previous l = go (eqb number 0)
   where
-    go : (t : Bool) → length (choose t noCheck previous) ≡ 16
+    go : (t : Bool) → length (cond t noCheck previous) ≡ 16
     go true = refl
     go false = l
 
@@ -53,7 +53,7 @@ pub mark-small : (n : ℕ) → isEdition n ≡ true → markOf n < 65536
 unfolding isEdition markOf
 mark-small n e = go (eqb n 1) (eqb n 2) e
   where
-    go : (t u : Bool) → (t || u) ≡ true → choose t 0 (choose u 2 65536) < 65536
+    go : (t u : Bool) → (t || u) ≡ true → cond t 0 (cond u 2 65536) < 65536
     go true u q = omega arith
     go false true q = omega arith
     go false false q = let y : _≡_ {A = ℕ} 0 1 = cc in absurd (omega arith)
@@ -78,12 +78,12 @@ module _ (ekey ckey : List ℕ) (e c : Expanded) (enc-is : e ≡ scheduleOf sBox
   passed q =
       go (bothTaken e c) refl (countFits (n .count)) (ltb (n .number) (n .count)) (lengthFits (n .number) (n .count) (length payload)) refl (isEdition (n .edition)) refl (ltb (length out) 512) refl (sym pa ∙ q)
     where
-      least : (t u v : Bool) → choose t (leb (length payload) 480 && u) v ≡ true → (v ≡ true → length payload ≤ 480) → length payload ≤ 480
+      least : (t u v : Bool) → cond t (leb (length payload) 480 && u) v ≡ true → (v ≡ true → length payload ≤ 480) → length payload ≤ 480
       least true u v f g = leb-true (length payload) 480 (and-true (leb (length payload) 480) u f .0)
       least false u v f g = g f
 
       go : (k : Bool) → bothTaken e c ≡ k → (m b l : Bool) → lengthFits (n .number) (n .count) (length payload) ≡ l → (i : Bool) → isEdition (n .edition) ≡ i → (o : Bool) → ltb (length out) 512 ≡ o
-          → choose (not k) WriteKey (choose (not m) WriteCount (choose (not b) WriteNumber (choose (not l) WriteLength (choose (not i) WriteEdition (choose o WriteRoom Written))))) ≡ Written → Passed
+          → cond (not k) WriteKey (cond (not m) WriteCount (cond (not b) WriteNumber (cond (not l) WriteLength (cond (not i) WriteEdition (cond o WriteRoom Written))))) ≡ Written → Passed
       go true ek true true true el true ei false eo f = record {
         keys = ek;
         len = least (eqb (n .number + 1) (n .count)) (ltb 0 (length payload) || eqb (n .count) 1) (eqb (length payload) 480) el (λ v. let y = eqb-true (length payload) 480 v in omega arith);

@@ -1,11 +1,11 @@
 // The writer of release images: one block, sealed under two keys.
 use aes_schedule::KeySchedule;
+use aes_schedule::both_taken;
 use image_block_seal::seal;
 use image_layout::Head;
 use image_limits::mark_of;
 use image_limits::tail_size;
 use image_spec::Rounds;
-use image_spec::both_taken;
 use image_writer_answer::Numbers;
 use image_writer_answer::WriteAnswer;
 use image_writer_answer::judge_write;
@@ -18,7 +18,7 @@ ghost use Rattle.image_limits.specs.Marks.{isEdition};
 ghost use Rattle.image_spec.specs.Edition.{tailOf, edition};
 ghost use Rattle.image_spec.specs.Sealed.{headFor};
 ghost use Rattle.image_writer_answer.specs.Answers.{lastFor};
-ghost use Rattle.image_writer.specs.Lent.{sealedUnder};
+ghost use Rattle.image_writer.specs.Model.{sealedUnder};
 ghost use Rattle.image_writer.specs.Calls as spec;
 
 // Seals a payload into the first 512 bytes of the output, as one block of an image; in edition 2 on the check of the block before.

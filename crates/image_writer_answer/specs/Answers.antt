@@ -1,9 +1,8 @@
 -- The answers of the writer in their order, and the check that a block is sealed on. Assumes nothing: these are definitions.
 use Prim.Native.Nat.{ℕ}
-use mathlib.Core.Bool.{Bool, not}
+use mathlib.Core.Bool.{Bool, not, cond}
 use mathlib.Core.List.{List}
 use lib.Dec.{eqb, ltb}
-use Rattle.octets.specs.Octets.{choose}
 use Rattle.image_layout.specs.Layout.{blockSize}
 use Rattle.image_limits.specs.Marks.{isEdition}
 use Rattle.image_limits.specs.Fits.{countFits, lengthFits}
@@ -25,13 +24,13 @@ writeNumber WriteEdition = 13
 -- 1, 7, 8, 12, 13, 4, in that order
 unfoldable pub writeRuled : (keys : Bool) → Numbers → (len room : ℕ) → WriteAnswer
 writeRuled keys n len room =
-    choose (not keys) WriteKey
-    (choose (not (countFits (n .count))) WriteCount
-    (choose (not (ltb (n .number) (n .count))) WriteNumber
-    (choose (not (lengthFits (n .number) (n .count) len)) WriteLength
-    (choose (not (isEdition (n .edition))) WriteEdition
-    (choose (ltb room blockSize) WriteRoom Written)))))
+    cond (not keys) WriteKey
+    (cond (not (countFits (n .count))) WriteCount
+    (cond (not (ltb (n .number) (n .count))) WriteNumber
+    (cond (not (lengthFits (n .number) (n .count) len)) WriteLength
+    (cond (not (isEdition (n .edition))) WriteEdition
+    (cond (ltb room blockSize) WriteRoom Written)))))
 
 -- the check that a block is sealed on: before number 0 there is none
 unfoldable pub lastFor : (number : ℕ) (previous : List ℕ) → List ℕ
-lastFor number previous = choose (eqb number 0) noCheck previous
+lastFor number previous = cond (eqb number 0) noCheck previous

@@ -47,7 +47,7 @@ impl Listed {
 }
 
 fn is_written(end: usize, text: &Text) -> bool {
-    if io::write_all(STDOUT_FILENO, text_words::part(text, 0, end)) {
+    if io::write_all(STDOUT_FILENO, octets_slice::part(text, 0, end)) {
         return true;
     }
     source::write_failed();
@@ -68,7 +68,7 @@ fn with_room(l: Listed, text: &Text) -> Listed {
 // A listing shows no payload, so it is dropped here.
 fn ask_one(reader: Reader, lent: &[u8]) -> Turn {
     let mut payload = [0u8; 480];
-    image::read_turn(reader, lent, 1, &mut payload)
+    image_reader::read_turn(reader, lent, 1, &mut payload)
 }
 
 // Offers one block, or the bytes that are left of the input, and puts the line with the number that was expected.
@@ -164,8 +164,8 @@ fn is_whole(reader: Reader, fd: i32) -> bool {
 // Where the input ends within the keys, the one that is short or missing is refused like any other of a wrong length.
 fn start(keys: &[u8]) -> ReadStarted {
     image_reader::read_start(
-        text_words::part(keys, 0, 16),
-        text_words::part(keys, 16, 32),
+        octets_slice::part(keys, 0, 16),
+        octets_slice::part(keys, 16, 32),
     )
 }
 

@@ -12,12 +12,12 @@ use Rattle.aes_schedule.specs.declared.Expanded.{Expanded}
 use Rattle.aes_schedule.proofs.Laws.{schedule-length}
 use Rattle.octets_block.specs.Blocks.{blockAt}
 use Rattle.aes_spec.specs.Cipher.{aesOf}
-use Rattle.aes_spec.specs.Equivalent.{equivalentCipher, inverseWords}
+use Rattle.aes_spec.specs.Model.{equivalentCipher, inverseWords}
 use Rattle.aes_spec.proofs.Equivalent.{equivalent-agrees}
 use Rattle.aes_spec.proofs.Aes.{key-lawful}
 use Rattle.modes_spec.specs.Pieces.{pieceCount}
 use Rattle.modes_spec.specs.Modes.{ivLength}
-use Rattle.modes_run.specs.Runs.{runOver}
+use Rattle.modes_run.specs.Model.{runOver}
 use Rattle.modes_run.proofs.Agree.{through-mode, iv-chain, iv-same, handed-iv}
 use Rattle.modes_spec.specs.declared.Operation.{Operation}
 use Rattle.modes_answer.specs.Answers.{modeNumber, leftOver, judged}

@@ -1,8 +1,9 @@
 -- What a call of a mode answers, writes and hands on. Assumes nothing: these are definitions.
+use mathlib.Core.Bool.{cond}
 use Prim.Native.Nat.{ℕ}
 use mathlib.Core.List.{List}
 use lib.ListN.{length, replicate}
-use Rattle.octets.specs.Octets.{choose, over}
+use Rattle.octets.specs.Octets.{over}
 use Rattle.aes_sbox.specs.Sbox.{sBox}
 use Rattle.aes_schedule.specs.Schedule.{scheduleOf, keyNumber}
 use Rattle.aes_spec.specs.Cipher.{aesOf}
@@ -28,7 +29,7 @@ modeOutput OutputShort o key iv inp out = out
 
 -- the chaining value beside an answer: what the operation hands on; zeros in ECB, which has none, and after a refusal
 abbrev pub modeNext : ModeAnswer → Operation → (key iv inp : List ℕ) → List ℕ
-modeNext Done o key iv inp = choose (chains o) (handedOn 16 (aesOf key) o iv inp) (replicate 16 0)
+modeNext Done o key iv inp = cond (chains o) (handedOn 16 (aesOf key) o iv inp) (replicate 16 0)
 modeNext BadKey o key iv inp = replicate 16 0
 modeNext BadIv o key iv inp = replicate 16 0
 modeNext NotPieces o key iv inp = replicate 16 0

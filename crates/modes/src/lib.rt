@@ -6,9 +6,9 @@ use modes_answer::judge;
 use modes_spec::Operation;
 use octets_block::load;
 ghost use mathlib.Core.Path.{_≡_};
-ghost use Rattle.aes_spec.specs.Equivalent.{equivalentCipher, inverseWords};
+ghost use Rattle.aes_spec.specs.Model.{equivalentCipher, inverseWords};
 ghost use Rattle.modes_spec.specs.Modes as standard;
-ghost use Rattle.modes_run.specs.Runs.{runOver};
+ghost use Rattle.modes_run.specs.Model.{runOver};
 ghost use Rattle.modes.specs.Calls.{modeAnswer, modeOutput, answerWith};
 
 // An answer, and the chaining value handed on: the last ciphertext block, in OFB the last cipher output, for an empty input the IV.

@@ -1,11 +1,10 @@
 -- What an answer says: that every test before it passed. Assumes nothing.
 use mathlib.Core.Path.{_≡_, refl}
-use mathlib.Core.Bool.{Bool, true, false}
+use mathlib.Core.Bool.{Bool, true, false, cond}
 use Prim.Native.Nat.{ℕ, _%_, _≤_}
 use native.Mathlib.Omega.{arith}
 use borrow.Author.Tests.{eqb-true, ltb-false}
 use lib.Dec.{eqb, ltb}
-use Rattle.octets.specs.Octets.{choose}
 use Rattle.modes_spec.specs.Modes.{anyLength, Unless}
 use Rattle.modes_answer.specs.Answers.{leftOver, judged}
 use Rattle.modes_spec.specs.declared.Operation.{Operation}
@@ -17,7 +16,7 @@ pub record Met (key wanted iv left inp out : ℕ) : Type 0 where
   pub taken : left ≡ 0
   pub room : inp ≤ out
 
-chosen : (a b c d : Bool) → choose a (choose b (choose c (choose d OutputShort Done) NotPieces) BadIv) BadKey ≡ Done → (a ≡ true) × (b ≡ true) × (c ≡ true) × (d ≡ false)
+chosen : (a b c d : Bool) → cond a (cond b (cond c (cond d OutputShort Done) NotPieces) BadIv) BadKey ≡ Done → (a ≡ true) × (b ≡ true) × (c ≡ true) × (d ≡ false)
 chosen true true true false h = (refl, refl, refl, refl)
 chosen true true true true h = absurd (let z : _≡_ {A = ℕ} 0 1 = cc in omega arith)
 chosen true true false d h = absurd (let z : _≡_ {A = ℕ} 0 1 = cc in omega arith)
@@ -35,7 +34,7 @@ pub left-none : (o : Operation) (n : ℕ) → leftOver o n ≡ 0 → Unless (any
 unfolding leftOver
 left-none o n = by (anyLength o)
   where
-    by : (k : Bool) → choose k 0 (n % 16) ≡ 0 → Unless k (n % 16 ≡ 0)
+    by : (k : Bool) → cond k 0 (n % 16) ≡ 0 → Unless k (n % 16 ≡ 0)
     by true e = tt
     by false e = e
 
@@ -43,6 +42,6 @@ pub none-left : (o : Operation) (n : ℕ) → Unless (anyLength o) (n % 16 ≡ 0
 unfolding leftOver
 none-left o n = by (anyLength o)
   where
-    by : (k : Bool) → Unless k (n % 16 ≡ 0) → choose k 0 (n % 16) ≡ 0
+    by : (k : Bool) → Unless k (n % 16 ≡ 0) → cond k 0 (n % 16) ≡ 0
     by true e = refl
     by false e = e

@@ -1,7 +1,7 @@
 -- What a call of a mode is answered with. Assumes nothing: these are definitions.
+use mathlib.Core.Bool.{cond}
 use Prim.Native.Nat.{ℕ, _%_}
 use lib.Dec.{eqb, ltb}
-use Rattle.octets.specs.Octets.{choose}
 use Rattle.modes_spec.specs.Modes.{anyLength}
 use Rattle.modes_spec.specs.declared.Operation.{Operation}
 use Rattle.modes_answer.specs.declared.ModeAnswer.{ModeAnswer}
@@ -17,12 +17,12 @@ modeNumber OutputShort = 4
 
 -- the bytes past whole pieces that an operation does not take: none where any length goes
 unfoldable pub leftOver : Operation → ℕ → ℕ
-leftOver o n = choose (anyLength o) 0 (n % 16)
+leftOver o n = cond (anyLength o) 0 (n % 16)
 
 -- 1, 2, 3, 4, in that order, of the key's number, the IV's length and the one wanted, the bytes left over, and the lengths of input and output
 unfoldable pub judged : (key wanted iv left inp out : ℕ) → ModeAnswer
 judged key wanted iv left inp out =
-    choose (eqb key 0)
-    (choose (eqb iv wanted)
-    (choose (eqb left 0)
-    (choose (ltb out inp) OutputShort Done) NotPieces) BadIv) BadKey
+    cond (eqb key 0)
+    (cond (eqb iv wanted)
+    (cond (eqb left 0)
+    (cond (ltb out inp) OutputShort Done) NotPieces) BadIv) BadKey

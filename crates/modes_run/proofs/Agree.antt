@@ -1,17 +1,17 @@
 -- A run over a cipher that agrees with AES is the operation over AES. Assumes nothing.
 use mathlib.Core.Path.{_≡_, refl, sym, ap, ap₂, _∙_}
-use mathlib.Core.Bool.{Bool, true, false, true≢false}
+use mathlib.Core.Bool.{Bool, true, false, true≢false, cond}
 use mathlib.Core.List.{List, [], _++_, append-nil}
 use Prim.Native.Nat.{ℕ, zero, suc, _*_, _/_, _%_, _≤_, min}
 use native.Mathlib.Nat.{zero-lt-suc}
 use native.Mathlib.Omega.{arith}
 use lib.ListN.{length, take, drop, replicate, drop-of-length-le}
 use lib.Seq.{take-all}
-use Rattle.octets.specs.Octets.{choose, Bytes, over}
+use Rattle.octets.specs.Octets.{Bytes, over}
 use Rattle.octets.specs.Blocks.{BlockCipher, Lawful}
 use Rattle.octets_block.specs.Blocks.{blockAt}
 use Rattle.octets_block.proofs.Laws.{block-at, block-octets}
-use Rattle.aes_spec.specs.Equivalent.{equivalentCipher, oneWay}
+use Rattle.aes_spec.specs.Model.{equivalentCipher, oneWay}
 use Rattle.aes_spec.proofs.Equivalent.{Agree}
 use Rattle.modes_spec.specs.Pieces.{outputOf, after}
 use Rattle.modes_spec.specs.Modes.{machine, inverts, ivLength, anyLength, chains, Unless, moded, handedOn}
@@ -20,7 +20,7 @@ use Rattle.modes_spec.specs.declared.Operation.the-variants.{EcbEncrypt, EcbDec
 use Rattle.modes_spec.proofs.Undo.{ChainOf}
 use Rattle.modes_spec.proofs.Sixteen.{pieces-16, length-16}
 use Rattle.modes_spec.proofs.Same.{moded-same, handed-same}
-use Rattle.modes_run.specs.Runs.{reach, runOver}
+use Rattle.modes_run.specs.Model.{reach, runOver}
 
 -- an operation uses the cipher one way only, so the schedule of that way serves
 forward-only : (w v : List ℕ) (nr : ℕ) (o : Operation) → inverts o ≡ false → machine (oneWay w nr) o ≡ machine (equivalentCipher w v nr) o
@@ -121,7 +121,7 @@ module _ (c : BlockCipher) (iv : List ℕ) (n : ℕ) (s : List ℕ) where
   handed-chain o e = ap (λ (x : List ℕ). after 16 (machine c o) x n s) (loaded iv e)
 
   -- what is handed on from the IV as it was loaded: zeros in ECB
-  pub handed-iv : (o : Operation) → length iv ≡ ivLength 16 o → after 16 (machine c o) (blockAt iv 0) n s ≡ choose (chains o) (after 16 (machine c o) iv n s) (replicate 16 0)
+  pub handed-iv : (o : Operation) → length iv ≡ ivLength 16 o → after 16 (machine c o) (blockAt iv 0) n s ≡ cond (chains o) (after 16 (machine c o) iv n s) (replicate 16 0)
   handed-iv EcbEncrypt e = ecb-after c EcbEncrypt (λ st p. refl) (blockAt iv 0) n s ∙ none-loaded iv e
   handed-iv EcbDecrypt e = ecb-after c EcbDecrypt (λ st p. refl) (blockAt iv 0) n s ∙ none-loaded iv e
   handed-iv CbcEncrypt e = handed-chain CbcEncrypt e
@@ -133,7 +133,7 @@ module _ (c : BlockCipher) (iv : List ℕ) (n : ℕ) (s : List ℕ) where
 -- ---- an input that a run takes whole
 
 -- as long as the output at most, and whole pieces where any length does not go
-all-taken : (k : Bool) (a b : ℕ) → Unless k (a % 16 ≡ 0) → a ≤ b → choose k (min a b) (min a b / 16 * 16) ≡ a
+all-taken : (k : Bool) (a b : ℕ) → Unless k (a % 16 ≡ 0) → a ≤ b → cond k (min a b) (min a b / 16 * 16) ≡ a
 all-taken true a b h l = omega arith
 all-taken false a b h l = omega arith
 

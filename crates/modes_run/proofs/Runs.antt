@@ -15,8 +15,8 @@ use Rattle.modes_spec.proofs.Joining.{made-joined, after-joined, front}
 use Rattle.modes_spec.specs.Modes.{machine, anyLength}
 use Rattle.modes_spec.specs.declared.Operation.{Operation}
 use Rattle.modes_spec.specs.declared.Operation.the-variants.{Ofb}
-use Rattle.modes_whole.specs.Whole.{ranWhole}
-use Rattle.modes_run.specs.Runs.{reach, runOver}
+use Rattle.modes_whole.specs.Model.{ranWhole}
+use Rattle.modes_run.specs.Model.{reach, runOver}
 use Rattle.modes_run.proofs.Agree.{any-length-ofb}
 
 -- n whole pieces are a run through as many bytes

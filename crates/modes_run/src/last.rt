@@ -4,7 +4,7 @@ ghost use mathlib.Core.Path.{_≡_};
 ghost use Prim.Native.Nat.{_≤_};
 ghost use lib.ListN.{length};
 ghost use Rattle.octets.specs.Blocks.{_⊕_};
-ghost use Rattle.aes_spec.specs.Equivalent.{oneWay};
+ghost use Rattle.aes_spec.specs.Model.{oneWay};
 ghost use Rattle.modes_spec.specs.Pieces.{ranThrough};
 ghost use Rattle.modes_spec.specs.Modes.{machine};
 ghost use Rattle.modes_spec.specs.declared.Operation.the-variants.{Ofb};

@@ -5,11 +5,11 @@ mod last;
 use crate::last::last_piece;
 use modes_answer::any_length;
 use modes_spec::Operation;
-use modes_whole::in_order;
-use modes_whole::shorter;
+use modes_whole::whole_pieces;
+use octets_slice::smaller;
 ghost use mathlib.Core.Path.{_≡_};
-ghost use Rattle.aes_spec.specs.Equivalent.{oneWay};
-ghost use Rattle.modes_run.specs.Runs.{runOver};
+ghost use Rattle.aes_spec.specs.Model.{oneWay};
+ghost use Rattle.modes_run.specs.Model.{runOver};
 
 // The pieces that input and output have in common: whole ones, and in OFB a short last one too.
 // The answer is what a piece after them is chained to.
@@ -23,8 +23,8 @@ pub fn run(
 ) -> [u8; 16]
     ensures { λ r. ⌜ (r, now (output .exit)) ≡ runOver (oneWay (now (words .entry)) rounds) operation iv (now (input .entry)) (now (output .entry)) ⌝ }
 {
-    let end = shorter(input.len(), output.len());
-    let chain = in_order(words, rounds, operation, iv, input, output);
+    let end = smaller(input.len(), output.len());
+    let chain = whole_pieces(words, rounds, operation, iv, input, output);
     if any_length(operation) {
         let n = end / 16;
         let at = n * 16;

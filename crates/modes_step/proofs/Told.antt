@@ -5,7 +5,7 @@ use Prim.Native.Nat.{ℕ}
 use Rattle.octets.specs.Blocks.{BlockCipher}
 use Rattle.modes_spec.specs.Modes.{machine}
 use Rattle.modes_spec.specs.declared.Operation.{Operation}
-use Rattle.modes_step.specs.Step.{stepOf}
+use Rattle.modes_step.specs.Model.{stepOf}
 use Rattle.modes_step.specs.declared.Stepped.{Stepped}
 
 -- o is the operation that came, v the one that it was told to be

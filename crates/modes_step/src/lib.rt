@@ -5,9 +5,9 @@ use aes_rounds_inverse::decrypt_block;
 use modes_spec::Operation;
 use octets_block::xor;
 ghost use mathlib.Core.Path.{_≡_};
-ghost use Rattle.aes_spec.specs.Equivalent.{oneWay};
+ghost use Rattle.aes_spec.specs.Model.{oneWay};
 ghost use Rattle.modes_spec.specs.Modes.{machine};
-ghost use Rattle.modes_step.specs.Step.{stepOf};
+ghost use Rattle.modes_step.specs.Model.{stepOf};
 
 // What comes out of a piece, and what the next piece is chained to.
 pub struct Stepped {

@@ -6,17 +6,18 @@ use modes_step::step;
 use octets_block::load;
 use octets_block::store;
 use octets_block::xor;
+use octets_slice::smaller;
 ghost use mathlib.Core.Path.{_≡_};
 ghost use Prim.Native.Nat.{_*_, _≤_, min};
 ghost use lib.ListN.{length};
 ghost use Rattle.modes_spec.specs.Pieces.{ran};
 ghost use Rattle.modes_spec.specs.declared.Operation.the-variants.{CbcDecrypt};
-ghost use Rattle.aes_spec.specs.Equivalent.{oneWay};
+ghost use Rattle.aes_spec.specs.Model.{oneWay};
 ghost use Rattle.modes_spec.specs.Modes.{machine};
-ghost use Rattle.modes_whole.specs.Whole.{ranWhole};
+ghost use Rattle.modes_whole.specs.Model.{ranWhole};
 
 // The whole pieces that input and output both have. The answer is what a piece after them is chained to.
-pub fn in_order(
+pub fn whole_pieces(
     words: &[u32; 60],
     rounds: usize,
     operation: Operation,
@@ -26,7 +27,7 @@ pub fn in_order(
 ) -> [u8; 16]
     ensures { λ r. ⌜ (r, now (output .exit)) ≡ ranWhole (machine (oneWay (now (words .entry)) rounds) operation) iv (now (input .entry)) (now (output .entry)) ⌝ }
 {
-    let both = shorter(input.len(), output.len());
+    let both = smaller(input.len(), output.len());
     let n = both / 16;
     if let Operation::CbcDecrypt = operation {
         return opened(words, rounds, iv, n, input, output);
@@ -65,11 +66,4 @@ fn opened(
         chain = piece;
     }
     chain
-}
-
-// The length that both have.
-pub fn shorter(a: usize, b: usize) -> usize
-    ensures { λ r. ⌜ r ≡ min a b ⌝ }
-{
-    if a < b { a } else { b }
 }

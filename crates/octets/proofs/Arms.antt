@@ -4,7 +4,7 @@ use mathlib.Core.Logic.{⊎-elim}
 use Prim.Native.Nat.{ℕ, zero, suc, _+_, _-_, _≤_, _<_, min}
 use native.Mathlib.Omega.{arith}
 use borrow.Author.Tests.{lt-ltb, le-ltb}
-use Rattle.octets.specs.Arms.{arm}
+use Rattle.octets.specs.Model.{arm}
 use Rattle.octets.proofs.Xor.{lt-or-le}
 
 -- x is none of the k numbers from b on, as `_` has it after k arms

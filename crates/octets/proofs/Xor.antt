@@ -1,6 +1,6 @@
 -- The algebra of exclusive or, and the bounds that it keeps. Assumes nothing.
 use mathlib.Core.Path.{_≡_, refl, sym, ap, ap₂, _∙_}
-use mathlib.Core.Bool.{Bool, true, false}
+use mathlib.Core.Bool.{Bool, true, false, cond}
 use mathlib.Core.Logic.{_⊎_, inl, inr}
 use Prim.Native.Nat.{ℕ, zero, suc, _+_, _*_, _/_, _%_, _≤_, _<_}
 use native.Mathlib.Nat.{zero-lt-suc, mod-lt}
@@ -10,7 +10,7 @@ use lib.Arith.{bin-ind, digits-mod}
 use lib.Dec.{ltb}
 use lib.Bits.{bitXor, differ, xor-step, xor-shr}
 use lib.Bits as bits
-use Rattle.octets.specs.Octets.{choose, xor}
+use Rattle.octets.specs.Octets.{xor}
 
 pub lt-or-le : (a b : ℕ) → (a < b) ⊎ (b ≤ a)
 lt-or-le a b = go (ltb a b) refl
@@ -19,9 +19,9 @@ lt-or-le a b = go (ltb a b) refl
     go true e = inl (ltb-true a b e)
     go false e = inr (ltb-false a b e)
 
-pub choose-lt : (t : Bool) {n x y : ℕ} → x < n → y < n → choose t x y < n
-choose-lt true hx hy = hx
-choose-lt false hx hy = hy
+pub cond-lt : (t : Bool) {n x y : ℕ} → x < n → y < n → cond t x y < n
+cond-lt true hx hy = hx
+cond-lt false hx hy = hy
 
 differ-assoc : (x y z : ℕ) → x < 2 → y < 2 → z < 2 → differ (differ x y) z ≡ differ x (differ y z)
 differ-assoc zero y z hx hy hz = refl

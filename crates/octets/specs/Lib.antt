@@ -1,4 +1,4 @@
 pub mod Octets
 pub mod Words
 pub mod Blocks
-pub mod Arms
+pub mod Model

@@ -7,11 +7,6 @@ use lib.Bits.{bitXor}
 use lib.Dec.{eqb}
 use lib.ListN.{length, getD, drop, replicate}
 
--- the first where the test holds, else the second
-abbrev pub choose : {A : Type 0} → Bool → A → A → A
-choose true a b = a
-choose false a b = b
-
 -- the sum of two bytes, or of two words: exclusive or, digit by digit
 unfoldable pub xor : ℕ → ℕ → ℕ
 xor a b = bitXor a b

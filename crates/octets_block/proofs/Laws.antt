@@ -1,5 +1,5 @@
 -- A block by its bytes. Assumes nothing.
-use mathlib.Core.Path.{_≡_, refl, _∙_}
+use mathlib.Core.Path.{_≡_, refl, ap, _∙_}
 use mathlib.Core.List.{List, [], _∷_}
 use Prim.Native.Nat.{ℕ, zero, suc, _+_, _≤_, _<_}
 use native.Mathlib.Omega.{arith}
@@ -10,7 +10,9 @@ use Rattle.octets.specs.Octets.{xor, tabulate, Bytes, Octets}
 use Rattle.octets.specs.Blocks.{_⊕_}
 use Rattle.octets.proofs.Fill.{is-tabulate}
 use Rattle.octets.proofs.Blocks.{⊕-length, take-octets, drop-bytes}
-use Rattle.octets_block.specs.Blocks.{blockAt, blockPut}
+use Rattle.octets_slice.specs.Slices.{copied}
+use Rattle.octets_slice.proofs.Laws.{copied-fits}
+use Rattle.octets_block.specs.Blocks.{blockAt}
 
 pub part-tabulate : (s : List ℕ) (at : ℕ) → at + 16 ≤ length s → take 16 (drop at s) ≡ tabulate 16 (λ k. getD s (at + k) 0)
 part-tabulate s at h =
@@ -35,9 +37,8 @@ module _ (s : List ℕ) (at : ℕ) (h : at + 16 ≤ length s) where
   unfolding blockAt
   block-at = rw (le-leb (at + 16) (length s) h)
 
-  pub block-put : (b : List ℕ) → blockPut s at b ≡ paste s at b 16
-  unfolding blockPut
-  block-put b = rw (le-leb (at + 16) (length s) h)
+  pub block-put : (b : List ℕ) → length b ≡ 16 → copied b at s ≡ paste s at b 16
+  block-put b e = copied-fits b at s (omega (arith, e)) ∙ ap (paste s at b) e
 
   pub block-octets : Bytes s → Octets 16 (blockAt s at)
   block-octets b = rw block-at (take-octets 16 (drop at s) (omega (arith, length-drop at s)) (drop-bytes at s b))

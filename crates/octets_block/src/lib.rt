@@ -1,11 +1,12 @@
 // Blocks of 16 bytes by value: out of a slice, into a slice, and their sum.
+use octets_slice::copy;
 use octets_slice::has_room;
 ghost use mathlib.Core.Path.{_≡_};
 ghost use Prim.Native.Nat.{_+_, _≤_};
 ghost use lib.ListN.{length, take, drop};
-ghost use lib.Seq.{paste};
 ghost use Rattle.octets.specs.Blocks.{_⊕_};
-ghost use Rattle.octets_block.specs.Blocks.{blockAt, blockPut};
+ghost use Rattle.octets_slice.specs.Slices.{copied};
+ghost use Rattle.octets_block.specs.Blocks.{blockAt};
 
 // The 16 bytes of s from a place on; zeros where s ends before.
 pub fn load(s: &[u8], at: usize) -> [u8; 16]
@@ -19,11 +20,9 @@ pub fn load(s: &[u8], at: usize) -> [u8; 16]
 
 // Puts the block into s from a place on; leaves s as it is where s ends before.
 pub fn store(s: &mut [u8], at: usize, block: [u8; 16])
-    ensures { λ _. ⌜ now (s .exit) ≡ blockPut (now (s .entry)) at block ⌝ }
+    ensures { λ _. ⌜ now (s .exit) ≡ copied block at (now (s .entry)) ⌝ }
 {
-    if has_room(s.len(), at, 16) {
-        put(s, at, block);
-    }
+    copy(&block, s, at);
 }
 
 pub fn xor(a: [u8; 16], b: [u8; 16]) -> [u8; 16]
@@ -45,13 +44,4 @@ fn get(s: &[u8], at: usize) -> [u8; 16]
         block[i] = s[at + i];
     }
     block
-}
-
-fn put(s: &mut [u8], at: usize, block: [u8; 16])
-    requires { ⌜ at + 16 ≤ length (now s) ⌝ }
-    ensures { λ _. ⌜ now (s .exit) ≡ paste (now (s .entry)) at block 16 ⌝ }
-{
-    for i in 0..16 {
-        s[at + i] = block[i];
-    }
 }

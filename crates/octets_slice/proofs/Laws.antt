@@ -1,11 +1,11 @@
--- A list put into another. Assumes nothing.
-use mathlib.Core.Path.{_≡_, ap, _∙_}
-use mathlib.Core.List.{List, _++_}
-use Prim.Native.Nat.{ℕ, zero, suc, _+_, _-_, _≤_}
+-- A list put into another, and a part of a list. Assumes nothing.
+use mathlib.Core.Path.{_≡_, ap, sym, _∙_}
+use mathlib.Core.List.{List, [], _++_}
+use Prim.Native.Nat.{ℕ, zero, suc, _+_, _-_, _≤_, _<_}
 use native.Mathlib.Omega.{arith}
 use borrow.Author.Tests.{le-leb}
-use lib.ListN.{length, drop, replicate, length-replicate}
-use lib.Seq.{paste, take-length}
+use lib.ListN.{length, take, drop, replicate, length-replicate, drop-of-length-le, length-drop}
+use lib.Seq.{paste, take-length, take-all, take-nil}
 use Rattle.octets.specs.Octets.{padTo, over}
 use Rattle.octets_slice.specs.Slices.{copied}
 
@@ -27,3 +27,17 @@ pub copied-zeros : (n : ℕ) (s : List ℕ) → length s ≤ n → copied s 0 (r
 unfolding padTo
 copied-zeros n s h =
     copied-fits s 0 (replicate n 0) (omega (arith, length-replicate {A = ℕ} n 0)) ∙ paste-front (replicate n 0) s ∙ ap (s ++_) (drop-zeros (length s) n)
+
+-- ---- a part, cut to what is there
+
+module _ (s : List ℕ) (from to : ℕ) where
+  pub part-none : to ≤ from → [] ≡ take (to - from) (drop from s)
+  part-none h = let e : to - from ≡ 0 = omega arith in rw e
+
+  pub part-past : length s ≤ from → [] ≡ take (to - from) (drop from s)
+  part-past h = rw (drop-of-length-le s {i = from} h, take-nil)
+
+  pub part-rest : length s < to → take (length s - from) (drop from s) ≡ take (to - from) (drop from s)
+  part-rest h =
+      let l = length-drop from s in
+      take-all (length s - from) (drop from s) (omega arith) ∙ sym (take-all (to - from) (drop from s) (omega arith))

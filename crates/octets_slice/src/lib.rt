@@ -1,9 +1,10 @@
-// Bytes copied from slice to slice, where there is room.
+// Slices of bytes: copied into another where there is room, the smaller of two lengths, a part of one, and whether two are the same.
 ghost use mathlib.Core.Path.{_≡_};
-ghost use Prim.Native.Nat.{_+_, _≤_};
-ghost use lib.Dec.{leb};
-ghost use lib.ListN.{length};
+ghost use Prim.Native.Nat.{_+_, _-_, _≤_, min};
+ghost use lib.Dec.{eqb, leb};
+ghost use lib.ListN.{length, take, drop};
 ghost use lib.Seq.{paste};
+ghost use Rattle.octets.specs.Octets.{same};
 ghost use Rattle.octets_slice.specs.Slices.{copied};
 
 // Puts the whole of s into w from a place on; leaves w as it is where it does not fit.
@@ -26,6 +27,50 @@ pub fn has_room(length: usize, at: usize, n: usize) -> bool
         return false;
     }
     true
+}
+
+pub fn smaller(a: usize, b: usize) -> usize
+    ensures { λ r. ⌜ r ≡ min a b ⌝ }
+{
+    if a < b { a } else { b }
+}
+
+// The bytes from `from` up to `to`, as far as there are any.
+pub fn part(s: &[u8], from: usize, to: usize) -> &[u8]
+    ensures { λ r. ⌜ now r ≡ take (to - from) (drop from (now (s .entry))) ⌝ }
+{
+    if to <= from {
+        return &s[..0];
+    }
+    if s.len() <= from {
+        return &s[..0];
+    }
+    if s.len() < to {
+        return &s[from..];
+    }
+    &s[from..to]
+}
+
+// Whether two slices hold the same bytes. All of them are looked at before the answer: where two differ does not show in the time.
+pub fn equal(a: &[u8], b: &[u8]) -> bool
+    ensures { λ r. ⌜ r ≡ same (now (a .entry)) (now (b .entry)) ⌝ }
+{
+    if a.len() != b.len() {
+        return false;
+    }
+    differences(a, b) == 0
+}
+
+// The differences of two slices of one length, gathered in one byte, which is 0 where there is none.
+fn differences(a: &[u8], b: &[u8]) -> u8
+    requires { ⌜ length (now a) ≡ length (now b) ⌝ }
+    ensures { λ r. ⌜ eqb r 0 ≡ same (now (a .entry)) (now (b .entry)) ⌝ }
+{
+    let mut gathered: u8 = 0;
+    for k in 0..a.len() {
+        gathered = gathered | (a[k] ^ b[k]);
+    }
+    gathered
 }
 
 fn put_all(s: &[u8], w: &mut [u8], at: usize)

@@ -1,16 +1,17 @@
 -- The hand cases of the requirements, as one table with one claim about all of its rows. Assumes nothing.
+use mathlib.Core.Bool.{cond}
 use mathlib.Core.Path.{_≡_, refl}
 use mathlib.Core.List.{List, [], _∷_, _++_, map}
 use Prim.Native.Nat.{ℕ}
 use lib.Dec.{eqb}
 use lib.ListN.{getD, replicate}
-use Rattle.octets.specs.Octets.{choose, xor, tabulate}
+use Rattle.octets.specs.Octets.{xor, tabulate}
 use Rattle.octets.specs.Words.{word}
 use Rattle.field.specs.Field.{xTimes, xPower, productWithin, _•_}
 use Rattle.aes_sbox.specs.Sbox.{square, powerWithin, inverse, bit, fromBits, affine, invAffine, sBox, invSBox}
 use Rattle.aes_words.specs.Columns.{rotWord, diagonal}
 use Rattle.aes_mix.specs.Mixing.{row}
-use Rattle.aes_expand.specs.Expansion.{rCon, keyWord, temp, nextWord}
+use Rattle.aes_expand.specs.Expansion.{rCon, temp, nextWord}
 use Rattle.aes_spec.specs.State.{aes, at, state, shiftRows, mixColumns, invMixColumns}
 use Rattle.cmac_spec.specs.Cmac.{shifted, doubled}
 
@@ -24,14 +25,14 @@ gives x y = record { given = x; wanted = y }
 
 -- a state whose first column this is, and its first column
 abbrev asColumn : List ℕ → List ℕ
-asColumn s = state aes (λ r c. choose (eqb c 0) (getD s r 0) 0)
+asColumn s = state aes (λ r c. cond (eqb c 0) (getD s r 0) 0)
 
 abbrev firstColumn : List ℕ → List ℕ
 firstColumn s = tabulate 4 (λ r. at s r 0)
 
 -- a state whose row in place 1 this is, and that row
 abbrev asRow : List ℕ → List ℕ
-asRow s = state aes (λ r c. choose (eqb r 1) (getD s c 0) 0)
+asRow s = state aes (λ r c. cond (eqb r 1) (getD s c 0) 0)
 
 abbrev rowOne : List ℕ → List ℕ
 rowOne s = tabulate 4 (λ c. at s 1 c)
@@ -52,5 +53,5 @@ hand-cases a =
     ∷ []
 
 pub hand-cases-hold : (a : ℕ) → map (λ (c : Case). c .given) (hand-cases a) ≡ map (λ (c : Case). c .wanted) (hand-cases a)
-unfolding hand-cases xor word xTimes xPower productWithin _•_ square powerWithin inverse bit fromBits affine invAffine sBox invSBox rotWord diagonal row rCon keyWord temp nextWord shiftRows mixColumns invMixColumns shifted doubled
+unfolding hand-cases xor word xTimes xPower productWithin _•_ square powerWithin inverse bit fromBits affine invAffine sBox invSBox rotWord diagonal row rCon temp nextWord shiftRows mixColumns invMixColumns shifted doubled
 hand-cases-hold a = refl

@@ -1,23 +1,23 @@
 -- Demands 1, 2 and 3 for the modes. Assumes nothing.
 use mathlib.Core.Path.{_≡_, refl, sym, ap, ap₂, subst, _∙_}
-use mathlib.Core.Bool.{Bool, true, false, true≢false}
+use mathlib.Core.Bool.{Bool, true, false, true≢false, cond}
 use mathlib.Core.Logic.{_⊎_, ⊎-elim}
 use mathlib.Core.List.{List, _++_}
-use Prim.Native.Nat.{ℕ, _+_, _*_, _/_, _%_, _≤_, _<_, min}
+use Prim.Native.Nat.{ℕ, _+_, _*_, _/_, _%_, _≤_, _<_, min, _-_}
 use native.Mathlib.Nat.{zero-lt-suc}
 use native.Mathlib.Omega.{arith}
-use borrow.Author.Tests.{eqb-true, eqb-false, ltb-true, ltb-false}
+use borrow.Author.Tests.{eqb-true, eqb-false, ltb-true, ltb-false, eq-eqb, le-ltb}
 use denote.Ref.{now}
 use lib.Dec.{eqb, ltb}
 use lib.ListN.{length, take, drop, replicate, length-append, length-drop}
 use lib.Seq.{take-at, drop-at}
-use Rattle.octets.specs.Octets.{choose, over, joined, Bytes, Octets}
+use Rattle.octets.specs.Octets.{over, joined, Bytes, Octets}
 use Rattle.octets.specs.Blocks.{BlockCipher, Lawful}
 use Rattle.octets.proofs.Blocks.{append-bytes}
 use Rattle.aes_sbox.specs.Sbox.{sBox}
 use Rattle.aes_schedule.specs.Schedule.{scheduleOf, keyNumber, roundCount}
 use Rattle.aes_spec.specs.Cipher.{standard, aesOf}
-use Rattle.aes_spec.specs.Equivalent.{equivalentCipher, inverseWords, oneWay}
+use Rattle.aes_spec.specs.Model.{equivalentCipher, inverseWords, oneWay}
 use Rattle.aes_spec.proofs.Equivalent.{equivalent-agrees}
 use Rattle.aes_spec.proofs.Aes.{aes-lawful, key-lawful}
 use Rattle.modes_spec.specs.Pieces.{outputOf}
@@ -30,7 +30,7 @@ use Rattle.modes_spec.proofs.Sixteen.{by-sixteen, pieces-16, length-16, undone-
 use Rattle.modes_spec.proofs.Equations.{equation, handed-on}
 use Rattle.modes_spec.proofs.HandedOn as cuts
 use Rattle.modes_spec.proofs.Pins.{all-but-ecb-chain, ecb-chains-nothing}
-use Rattle.modes_run.specs.Runs.{reach, runOver}
+use Rattle.modes_run.specs.Model.{reach, runOver}
 use Rattle.modes_run.proofs.Agree.{iv-is-chain, through-forward, through-backward, through-mode}
 use Rattle.modes_answer.specs.Answers.{modeNumber, leftOver, judged}
 use Rattle.modes_answer.specs.declared.ModeAnswer.{ModeAnswer}
@@ -40,14 +40,16 @@ use Rattle.modes.specs.Calls.{modeAnswer, modeOutput, modeNext}
 use Rattle.modes.specs.declared.Applied.{Applied}
 use Rattle.modes.proofs.Calls.{kept, zeros}
 use Rattle.modes.proofs.Pins.{hands-on}
-use Rattle.promises.proofs.Keys.{KeyTaken}
+use Rattle.promises.proofs.Aes.Keys.{KeyTaken, taken-key}
 use Rattle.modes_answer.proofs.judge.Reads as judge-mode
 use Rattle.modes_answer.proofs.any_length.Reads as any-length
 use Rattle.modes.proofs.apply.Reads as apply
 use Rattle.modes_step.proofs.step.Reads as step
-use Rattle.modes_whole.proofs.in_order.Reads as in-order
-use Rattle.modes_whole.proofs.shorter.Reads as shorter
+use Rattle.modes_whole.proofs.whole_pieces.Reads as whole-pieces
 use Rattle.modes_run.proofs.run.Reads as run
+use Rattle.modes_answer.proofs.ModeAnswer.number.Reads as mode-number
+use Rattle.aes_schedule.specs.declared.KeyAnswer.{KeyAnswer}
+use Rattle.aes_schedule.specs.declared.KeyAnswer.the-variants.{Taken}
 
 -- ---- the words of this page
 
@@ -114,25 +116,19 @@ any-length-asks-nothing κs a = tt
 pub any-length-determined : (κs : _) (a : _) (r r′ : _) (s s′ : _) → any-length.Post κs a r s → any-length.Post κs a r′ s′ → r ≡ r′
 any-length-determined κs a r r′ s s′ p q = p ∙ sym q
 
-pub shorter-asks-nothing : (κs : _) (a : _) → shorter.Asked κs a
-shorter-asks-nothing κs a = tt
+pub whole-pieces-asks-nothing : (κs : _) (a : _) → whole-pieces.Asked κs a
+whole-pieces-asks-nothing κs a = tt
 
-pub shorter-determined : (κs : _) (a : _) (r r′ : _) (s s′ : _) → shorter.Post κs a r s → shorter.Post κs a r′ s′ → r ≡ r′
-shorter-determined κs a r r′ s s′ p q = p ∙ sym q
-
-pub in-order-asks-nothing : (κs : _) (a : _) → in-order.Asked κs a
-in-order-asks-nothing κs a = tt
-
-pub in-order-determined : (κs : _) (a : _) (r r′ : _) (s s′ : _) → in-order.Post κs a r s → in-order.Post κs a r′ s′
+pub whole-pieces-determined : (κs : _) (a : _) (r r′ : _) (s s′ : _) → whole-pieces.Post κs a r s → whole-pieces.Post κs a r′ s′
     → (r ≡ r′) × (now (s .1 .1 .1 .1 .1 .0) ≡ now (s′ .1 .1 .1 .1 .1 .0))
-in-order-determined κs a r r′ s s′ p q = let e = p ∙ sym q in (ap (λ (x : List ℕ × List ℕ). x .0) e, ap (λ (x : List ℕ × List ℕ). x .1) e)
+whole-pieces-determined κs a r r′ s s′ p q = let e = p ∙ sym q in (ap (λ (x : List ℕ × List ℕ). x .0) e, ap (λ (x : List ℕ × List ℕ). x .1) e)
 
 -- a run through whole pieces refuses nothing; where input and output have none in common it leaves the output as it was
-pub in-order-refused-keeps : (κs : _) (a : _) (r : _) (s : _) → in-order.Post κs a r s
+pub whole-pieces-refused-keeps : (κs : _) (a : _) (r : _) (s : _) → whole-pieces.Post κs a r s
     → min (length (now (a .1 .1 .1 .1 .0))) (length (now (a .1 .1 .1 .1 .1 .0))) / 16 ≡ 0
     → now (s .1 .1 .1 .1 .1 .0) ≡ now (a .1 .1 .1 .1 .1 .0)
 unfolding outputOf
-in-order-refused-keeps κs a r s p e = ap (λ (x : List ℕ × List ℕ). x .1) p ∙ rw e
+whole-pieces-refused-keeps κs a r s p e = ap (λ (x : List ℕ × List ℕ). x .1) p ∙ rw e
 
 pub run-asks-nothing : (κs : _) (a : _) → run.Asked κs a
 run-asks-nothing κs a = tt
@@ -162,7 +158,7 @@ judged-says key o iv inp out P k i t l d = each (eqb key 0) (eqb iv (ivLength 16
     took e = left-none o inp (eqb-true _ _ e)
 
     each : (p q u v : Bool) → eqb key 0 ≡ p → eqb iv (ivLength 16 o) ≡ q → eqb (leftOver o inp) 0 ≡ u → ltb out inp ≡ v
-        → P (choose p (choose q (choose u (choose v OutputShort Done) NotPieces) BadIv) BadKey)
+        → P (cond p (cond q (cond u (cond v OutputShort Done) NotPieces) BadIv) BadKey)
     each true true true true ep eq eu ev = l (eqb-true _ _ ep) (eqb-true _ _ eq) (took eu) (ltb-true _ _ ev)
     each true true true false ep eq eu ev = d (eqb-true _ _ ep) (eqb-true _ _ eq) (took eu) (ltb-false _ _ ev)
     each true true false v ep eq eu ev = t (eqb-true _ _ ep) (eqb-true _ _ eq) (λ x. eqb-false _ _ eu (none-left o inp x))
@@ -481,3 +477,30 @@ two-calls-are-one κs a r s p κs′ a′ r′ s′ p′ κs″ a″ r″ s″ p
       g3 .0 ∙ ap (moded 16 c o iv) es ∙ e .0 ∙ ap (λ (v : List ℕ). moded 16 c o iv x ++ moded 16 c o v y) (sym n1) ∙ sym (ap₂ _++_ w1 w2),
       g3 .1 ∙ ap (handedOn 16 c o iv) es ∙ e .1 ∙ ap (λ (v : List ℕ). handedOn 16 c o v y) (sym n1) ∙ sym n2,
     )
+
+pub mode-number-asks-nothing : (κs : _) (a : _) → mode-number.Asked κs a
+mode-number-asks-nothing κs a = tt
+
+pub mode-number-determined : (κs : _) (a : _) (r r′ : _) (s s′ : _) → mode-number.Post κs a r s → mode-number.Post κs a r′ s′ → r ≡ r′
+mode-number-determined κs a r r′ s s′ p q = p ∙ sym q
+
+-- ---- the modes' judge, of the answer for the key and the lengths of IV, input and output: 1, 2, 3, 4
+
+abbrev pub ModeSays : KeyAnswer → Operation → (iv inp out : ℕ) → ModeAnswer → Type 0
+ModeSays key o iv inp out Done = (key ≡ Taken) × (iv ≡ ivLength 16 o) × Takes o inp × (inp ≤ out)
+ModeSays key o iv inp out BadKey = key ≡ Taken → ⊥
+ModeSays key o iv inp out BadIv = (key ≡ Taken) × (iv ≡ ivLength 16 o → ⊥)
+ModeSays key o iv inp out NotPieces = (key ≡ Taken) × (iv ≡ ivLength 16 o) × (Takes o inp → ⊥)
+ModeSays key o iv inp out OutputShort = (key ≡ Taken) × (iv ≡ ivLength 16 o) × Takes o inp × (out < inp)
+
+pub judge-mode-as-told : (κs : _) (a : _) (r : _) (s : _) → judge-mode.Post κs a r s → ModeSays (a .0) (a .1 .0) (a .1 .1 .0) (a .1 .1 .1 .0) (a .1 .1 .1 .1 .0) r
+judge-mode-as-told κs a r s p =
+    subst (ModeSays (a .0) (a .1 .0) (a .1 .1 .0) (a .1 .1 .1 .0) (a .1 .1 .1 .1 .0)) (sym p)
+    (judged-says (keyNumber (a .0)) (a .1 .0) (a .1 .1 .0) (a .1 .1 .1 .0) (a .1 .1 .1 .1 .0) (ModeSays (a .0) (a .1 .0) (a .1 .1 .0) (a .1 .1 .1 .0) (a .1 .1 .1 .1 .0))
+    (λ n e. n (ap keyNumber e)) (λ k n. (taken-key (a .0) k, n)) (λ k i n. (taken-key (a .0) k, i, n)) (λ k i t l. (taken-key (a .0) k, i, t, l)) (λ k i t l. (taken-key (a .0) k, i, t, l)))
+
+pub judge-mode-done : (κs : _) (a : _) (r : _) (s : _) → judge-mode.Post κs a r s
+    → a .0 ≡ Taken → a .1 .1 .0 ≡ ivLength 16 (a .1 .0) → Takes (a .1 .0) (a .1 .1 .1 .0) → a .1 .1 .1 .0 ≤ a .1 .1 .1 .1 .0 → modeNumber r ≡ 0
+unfolding judged
+judge-mode-done κs a r s p k i t l =
+    ap modeNumber p ∙ rw (eq-eqb (keyNumber (a .0)) 0 (ap keyNumber k), eq-eqb (a .1 .1 .0) (ivLength 16 (a .1 .0)) i, eq-eqb (leftOver (a .1 .0) (a .1 .1 .1 .0)) 0 (none-left (a .1 .0) (a .1 .1 .1 .0) t), le-ltb (a .1 .1 .1 .1 .0) (a .1 .1 .1 .0) l)

@@ -1,5 +1,6 @@
 // What is read: the keys, and the input a piece at a time. A read that fails is told from an end.
 use crate::tell;
+use octets_slice::smaller;
 ghost use Prim.Native.Nat.{_-_, _≤_};
 ghost use lib.ListN.{length};
 
@@ -81,12 +82,6 @@ fn more(fd: i32, buf: &mut [u8], at: usize, end: usize) -> Got
     }
 }
 
-pub fn smaller(a: usize, b: usize) -> usize
-    ensures { λ r. ⌜ (r ≤ a) × (r ≤ b) ⌝ }
-{
-    if a < b { a } else { b }
-}
-
 // 0 for a number below.
 pub fn natural(n: i64) -> usize {
     if n >= 0 { n as usize } else { 0 }
@@ -112,7 +107,7 @@ pub fn keys(room: &mut [u8; 65]) -> usize {
 
 // The keys, which have n bytes.
 pub fn of(room: &[u8; 65], n: usize) -> &[u8] {
-    text_words::part(room, 0, n)
+    octets_slice::part(room, 0, n)
 }
 
 fn is_two_keys(n: usize) -> bool {
@@ -136,9 +131,9 @@ fn wrong_size(n: usize) {
 }
 
 pub fn encryption_key(keys: &[u8]) -> &[u8] {
-    text_words::part(keys, 0, keys.len() / 2)
+    octets_slice::part(keys, 0, keys.len() / 2)
 }
 
 pub fn check_key(keys: &[u8]) -> &[u8] {
-    text_words::part(keys, keys.len() / 2, keys.len())
+    octets_slice::part(keys, keys.len() / 2, keys.len())
 }

@@ -44,7 +44,7 @@ fn rest(t: Told, text: &mut [u8], at: usize) -> usize {
 fn write(t: Told, word: &[u8]) {
     let mut text = [0u8; 128];
     let end = put(t, word, &mut text);
-    io::write_all(STDOUT_FILENO, text_words::part(&text, 0, end));
+    io::write_all(STDOUT_FILENO, octets_slice::part(&text, 0, end));
 }
 
 pub fn complete(t: Told) {

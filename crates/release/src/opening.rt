@@ -70,7 +70,7 @@ fn head_at(lent: &[u8], block: usize) -> Head {
 // Whole blocks are offered. Only the last block of an image may be short, so the payload of a turn has no gap.
 fn offer(r: Reading, lent: &[u8], to: i32, payload: &mut Payload) -> Reading {
     let before = r.reader;
-    let t = image::read_turn(before, lent, 128, payload);
+    let t = image_reader::read_turn(before, lent, 128, payload);
     let n = t.bytes;
     let reader = t.reader;
     let stop = t.stop;
@@ -81,7 +81,7 @@ fn offer(r: Reading, lent: &[u8], to: i32, payload: &mut Payload) -> Reading {
         head: head_at(lent, t.accepted),
         after: After::Another,
     };
-    if !is_put(to, text_words::part(payload, 0, n)) {
+    if !is_put(to, octets_slice::part(payload, 0, n)) {
         return u.then(After::Failed);
     }
     if answer == 0 {
@@ -113,7 +113,7 @@ fn step(r: Reading, from: i32, to: i32, lent: &mut Blocks, payload: &mut Payload
     }
     let rest = n % 512;
     with_rest(
-        offer(r, text_words::part(lent, 0, n - rest), to, payload),
+        offer(r, octets_slice::part(lent, 0, n - rest), to, payload),
         rest,
     )
 }

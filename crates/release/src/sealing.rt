@@ -126,7 +126,7 @@ fn left(n: usize, used: usize, most: usize) -> usize
     if n <= used {
         return 0;
     }
-    input::smaller(n - used, most)
+    octets_slice::smaller(n - used, most)
 }
 
 fn stopped(s: Sealed) -> Sealed {
@@ -154,7 +154,7 @@ fn put_blocks(
         tell::plain(b"the writer refused a block: report this with the size of the file");
         return t;
     }
-    if keep::write(job.to, text_words::part(blocks, 0, k * 512)) {
+    if keep::write(job.to, octets_slice::part(blocks, 0, k * 512)) {
         return t;
     }
     stopped(t)
@@ -183,7 +183,7 @@ fn turn(
         return stopped(s);
     }
     let k = left(job.count as usize, i * 128, 128);
-    put_blocks(keys, job, s, k, text_words::part(payload, 0, n), blocks)
+    put_blocks(keys, job, s, k, octets_slice::part(payload, 0, n), blocks)
 }
 
 // A byte behind the size that the file had at the start.

@@ -9,10 +9,10 @@ use lib.ListN.{length, drop, getD, set, drop-of-length-le}
 use lib.Seq.{paste, drop-cons}
 use lib.Dec.{eqb, ltb}
 use borrow.Author.Tests.{eq-eqb, ne-eqb, eqb-true, le-leb, lt-leb, lt-ltb, le-ltb, ltb-true, ltb-false}
-use Rattle.text_put.specs.Places.{placed}
-use Rattle.text_put.specs.Hex.{charOf, hexOf, hexWord}
+use Rattle.octets_slice.specs.Slices.{copied}
+use Rattle.text_hex.specs.Written.{charOf, hexOf, hexWord}
 use Rattle.text_put.proofs.PlaceLaws.{put-more, fits-not, fits-yes, placed-not, placed-yes, placed-none}
-use Rattle.text_put.proofs.HexLaws.{length-hexOf}
+use Rattle.text_hex.proofs.WrittenLaws.{length-hexOf}
 use Rattle.text_hex.specs.Hex.{digitOf, byteOf, unhex, allHex, isDash, isBytes, bytesOf, decodeAnswer}
 use Rattle.text_hex.specs.declared.Decoded.{Decoded}
 use Rattle.text_hex.specs.declared.Decoded.the-variants.{End, Bad}
@@ -155,7 +155,7 @@ module _ (w : List ℕ) where
 
 -- decoding w into out at a place answers a and leaves o
 abbrev pub Decodes : List ℕ → List ℕ → ℕ → Decoded → List ℕ → Type 0
-Decodes w out at a o = (a ≡ decodeAnswer w out at) × (o ≡ placed (bytesOf w) out at)
+Decodes w out at a o = (a ≡ decodeAnswer w out at) × (o ≡ copied (bytesOf w) at out)
 
 module _ (w out : List ℕ) (at : ℕ) where
   no-room : length out < at + length (bytesOf w) → Decodes w out at Bad out
@@ -180,8 +180,8 @@ module _ (w out : List ℕ) (at : ℕ) where
     unfolding decodeAnswer
     decode-good h =
         let l = sized in
-        let p : paste out at (bytesOf w) (length (bytesOf w)) ≡ placed (bytesOf w) out at = placed-yes (bytesOf w) out at (omega arith) .1 in
-        (rw (b, fits-yes (bytesOf w) out at (omega arith), l), (rw (l, bytes-yes w b) at p) ∙ sym (ap (λ (x : List ℕ). placed x out at) (bytes-yes w b)))
+        let p : paste out at (bytesOf w) (length (bytesOf w)) ≡ copied (bytesOf w) at out = placed-yes (bytesOf w) out at (omega arith) .1 in
+        (rw (b, fits-yes (bytesOf w) out at (omega arith), l), (rw (l, bytes-yes w b) at p) ∙ sym (ap (λ (x : List ℕ). copied x at out) (bytes-yes w b)))
 
 digit-by : (n : ℕ) → n < 16 → (t : Bool) → ltb n 10 ≡ t → digitOf (charOf n) ≡ n
 unfolding charOf

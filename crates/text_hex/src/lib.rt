@@ -1,11 +1,17 @@
-// Words of hex digits read as bytes.
+// Words of hex digits read as bytes, and bytes written as such a word.
+mod spelling;
+
+use spelling::spell;
+use text_put::put;
 ghost use mathlib.Core.Path.{_≡_};
 ghost use mathlib.Core.Bool.{true};
 ghost use Prim.Native.Nat.{_+_, _*_, _≤_, _<_};
 ghost use lib.ListN.{length};
 ghost use lib.Seq.{paste};
-ghost use Rattle.text_put.specs.Places.{placed};
+ghost use Rattle.octets_slice.specs.Slices.{copied};
+ghost use Rattle.text_put.specs.Places.{placeAfter};
 ghost use Rattle.text_hex.specs.Hex.{digitOf, byteOf, unhex, allHex, isDash, isBytes, bytesOf, decodeAnswer};
+ghost use Rattle.text_hex.specs.Written.{hexWord};
 
 // What decoding a word of hex finds: the place after its bytes, or that it is bad or does not fit.
 pub enum Decoded {
@@ -15,7 +21,7 @@ pub enum Decoded {
 
 // Puts the bytes of a word of hex into `out` at `at`; a word that is bad or does not fit puts none.
 pub fn decode(word: &[u8], out: &mut [u8], at: usize) -> Decoded
-    ensures { λ r. ⌜ (r ≡ decodeAnswer (now (word .entry)) (now (out .entry)) at) × (now (out .exit) ≡ placed (bytesOf (now (word .entry))) (now (out .entry)) at) ⌝ }
+    ensures { λ r. ⌜ (r ≡ decodeAnswer (now (word .entry)) (now (out .entry)) at) × (now (out .exit) ≡ copied (bytesOf (now (word .entry))) at (now (out .entry))) ⌝ }
 {
     if !is_bytes(word) {
         return Decoded::Bad;
@@ -29,6 +35,23 @@ pub fn decode(word: &[u8], out: &mut [u8], at: usize) -> Decoded
     }
     fill(word, n, out, at);
     Decoded::End(at + n)
+}
+
+// Puts bytes as a word of hex into `out` at `at` and answers the place after it; a word that does not fit puts nothing and answers `at`.
+pub fn put_hex(bytes: &[u8], out: &mut [u8], at: usize) -> usize
+    ensures { λ r. ⌜ (r ≡ placeAfter (hexWord (now (bytes .entry))) (now (out .entry)) at) × (now (out .exit) ≡ copied (hexWord (now (bytes .entry))) at (now (out .entry))) ⌝ }
+{
+    if bytes.len() == 0 {
+        return put(b"-", out, at);
+    }
+    if out.len() < at {
+        return at;
+    }
+    if (out.len() - at) / 2 < bytes.len() {
+        return at;
+    }
+    spell(bytes, out, at);
+    at + 2 * bytes.len()
 }
 
 // The value of a hex digit, and 16 for any other byte.

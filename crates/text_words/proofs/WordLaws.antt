@@ -80,14 +80,3 @@ word-part s at e k p q =
     rw (d, take-before 32 (drop at s), q)
 
 -- a part of a list, as far as there is any
-module _ (s : List ℕ) (from to : ℕ) where
-  pub part-none : to ≤ from → [] ≡ take (to - from) (drop from s)
-  part-none h = let e : to - from ≡ 0 = omega arith in rw e
-
-  pub part-past : length s ≤ from → [] ≡ take (to - from) (drop from s)
-  part-past h = rw (drop-of-length-le s {i = from} h, take-nil)
-
-  pub part-rest : length s < to → take (length s - from) (drop from s) ≡ take (to - from) (drop from s)
-  part-rest h =
-      let l = length-drop from s in
-      take-all (length s - from) (drop from s) (omega arith) ∙ sym (take-all (to - from) (drop from s) (omega arith))

@@ -1,27 +1,10 @@
 // Lines of text: words parted by one space.
 mod spaces;
 
+use octets_slice::part;
 use spaces::start;
 ghost use mathlib.Core.Path.{_≡_};
-ghost use Prim.Native.Nat.{_-_};
-ghost use lib.ListN.{take, drop};
 ghost use Rattle.text_words.specs.Words.{endOf, wordOf, wordCount};
-
-// The bytes from `from` up to `to`, as far as there are any.
-pub fn part(s: &[u8], from: usize, to: usize) -> &[u8]
-    ensures { λ r. ⌜ now r ≡ take (to - from) (drop from (now (s .entry))) ⌝ }
-{
-    if to <= from {
-        return &s[..0];
-    }
-    if s.len() <= from {
-        return &s[..0];
-    }
-    if s.len() < to {
-        return &s[from..];
-    }
-    &s[from..to]
-}
 
 // The place of the first byte `stop` from `at` on, or the end.
 pub fn find(s: &[u8], at: usize, stop: u8) -> usize

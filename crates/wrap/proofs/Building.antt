@@ -10,10 +10,10 @@ use Rattle.octets_slice.proofs.Laws.{paste-front, drop-zeros}
 use Rattle.octets.specs.Octets.{padTo, same, over}
 use Rattle.octets.specs.Blocks.{BlockCipher}
 use Rattle.wrap_spec.specs.Wrap.{initial, register, passes, wrapped, unwrapped}
-use Rattle.wrap_registers.specs.Registers.{passedOver, unpassedOver}
+use Rattle.wrap_registers.specs.Model.{passedOver, unpassedOver}
 use Rattle.wrap_registers.proofs.Places.{drop-past}
 use Rattle.wrap_registers.proofs.Sizes.{passed-is, unpassed-is}
-use Rattle.wrap.specs.Unwrapping.{openedOver}
+use Rattle.wrap.specs.Model.{openedOver}
 use Rattle.wrap.specs.Calls.{opening}
 use Rattle.wrap_answer.specs.declared.WrapAnswer.the-variants.{WrapDone, WrongInitial}
 

@@ -1,6 +1,6 @@
 -- From what the parts of a call give to what the call is to give. Assumes nothing.
 use mathlib.Core.Path.{_≡_, refl, sym, ap, _∙_}
-use mathlib.Core.Bool.{Bool, true, false}
+use mathlib.Core.Bool.{Bool, true, false, cond}
 use mathlib.Core.List.{List, [], _∷_}
 use Prim.Native.Nat.{ℕ, _+_, _-_, _%_, _≤_}
 use native.Mathlib.Omega.{arith}
@@ -9,14 +9,14 @@ use denote.Enum.Declared.{tagOf}
 use borrow.Author.Tests.{eqb-true, ltb-false}
 use lib.Dec.{eqb, ltb}
 use lib.ListN.{length, drop}
-use Rattle.octets.specs.Octets.{Bytes, choose, same, over}
+use Rattle.octets.specs.Octets.{Bytes, same, over}
 use Rattle.octets.specs.Blocks.{Lawful}
 use Rattle.aes_sbox.specs.Sbox.{sBox}
 use Rattle.aes_schedule.specs.Schedule.{scheduleOf, keyNumber}
 use Rattle.aes_schedule.specs.declared.Expanded.{Expanded}
 use Rattle.aes_schedule.proofs.Laws.{schedule-length}
 use Rattle.aes_spec.specs.Cipher.{aesOf, standard}
-use Rattle.aes_spec.specs.Equivalent.{oneWay, inverseWords}
+use Rattle.aes_spec.specs.Model.{oneWay, inverseWords}
 use Rattle.aes_spec.proofs.Equivalent.{equivalent-agrees}
 use Rattle.aes_spec.proofs.Aes.{key-lawful}
 use Rattle.wrap_spec.specs.Wrap.{initial, register, wrapped, unwrapped}
@@ -24,7 +24,7 @@ use Rattle.wrap_answer.proofs.Sizes.{wrapped-size-parts}
 use Rattle.wrap_spec.proofs.Agree.{unwrapped-same}
 use Rattle.wrap_answer.specs.Answers.{wrappedSizeFits, sizeFits, wrapRuled}
 use Rattle.wrap.specs.Calls.{wrapAnswer, wrapOutput, opening, unwrapAnswer, unwrapOutput}
-use Rattle.wrap.specs.Unwrapping.{openedOver}
+use Rattle.wrap.specs.Model.{openedOver}
 use Rattle.wrap_answer.specs.declared.WrapAnswer.{WrapAnswer}
 use Rattle.wrap_answer.specs.declared.WrapAnswer.the-variants.{WrapDone, WrapKey, WrapSize, WrapRoom, WrongInitial}
 use Rattle.wrap_answer.proofs.WrapAnswer.{the-type}
@@ -61,7 +61,7 @@ record Passed (key : ℕ) (size : Bool) (result out : ℕ) : Type 0 where
   room : result ≤ out
 
 module _ (key : ℕ) (size : Bool) (result out : ℕ) where
-  chosen : (k s r : Bool) → choose k (choose s (choose r WrapRoom WrapDone) WrapSize) WrapKey ≡ WrapDone → (k ≡ true) × (s ≡ true) × (r ≡ false)
+  chosen : (k s r : Bool) → cond k (cond s (cond r WrapRoom WrapDone) WrapSize) WrapKey ≡ WrapDone → (k ≡ true) × (s ≡ true) × (r ≡ false)
   chosen true true false e = (refl, refl, refl)
   chosen true true true e = let y : _≡_ {A = ℕ} 0 1 = cc in absurd (omega arith)
   chosen true false r e = let y : _≡_ {A = ℕ} 0 1 = cc in absurd (omega arith)
@@ -82,7 +82,7 @@ module _ (key : ℕ) (size : Bool) (result out : ℕ) where
   unfolding wrapRuled
   ruled-refused z a e h = go (eqb key 0) size (ltb out result) e
     where
-      go : (k s r : Bool) → a ≡ choose k (choose s (choose r WrapRoom WrapDone) WrapSize) WrapKey → a ≡ choose k (choose s (choose r WrapRoom z) WrapSize) WrapKey
+      go : (k s r : Bool) → a ≡ cond k (cond s (cond r WrapRoom WrapDone) WrapSize) WrapKey → a ≡ cond k (cond s (cond r WrapRoom z) WrapSize) WrapKey
       go true true false f = absurd (not-done a h f)
       go true true true f = f
       go true false r f = f
@@ -135,7 +135,7 @@ module _ (key : List ℕ) (x : Expanded) (px : x ≡ scheduleOf sBox key) (dat o
 
         module _ (r : WrapAnswer) (pr : r ≡ opening (oneWay v (x .schedule .rounds)) dat) where
           opening-is : r ≡ opening (aesOf key) dat
-          opening-is = pr ∙ ap (λ (u : List ℕ). choose (same (register u 0) initial) WrapDone WrongInitial) unwrapped-is
+          opening-is = pr ∙ ap (λ (u : List ℕ). cond (same (register u 0) initial) WrapDone WrongInitial) unwrapped-is
 
           pub unwrap-answered : r ≡ unwrapAnswer key dat out
           unfolding unwrapAnswer
@@ -146,10 +146,10 @@ module _ (key : List ℕ) (x : Expanded) (px : x ≡ scheduleOf sBox key) (dat o
 
           pub unwrapped-by : (o : List ℕ) → o ≡ openedOver (oneWay v (x .schedule .rounds)) dat out → o ≡ unwrapOutput r key dat out
           unwrapped-by o po =
-              po ∙ ap (λ (u : List ℕ). choose (same (register u 0) initial) (over (drop 8 u) out) out) unwrapped-is
+              po ∙ ap (λ (u : List ℕ). cond (same (register u 0) initial) (over (drop 8 u) out) out) unwrapped-is
               ∙ each (same (register (unwrapped (aesOf key) dat) 0) initial)
               ∙ ap (λ (z : WrapAnswer). unwrapOutput z key dat out) (sym opening-is)
             where
-              each : (s : Bool) → choose s (over (drop 8 (unwrapped (aesOf key) dat)) out) out ≡ unwrapOutput (choose s WrapDone WrongInitial) key dat out
+              each : (s : Bool) → cond s (over (drop 8 (unwrapped (aesOf key) dat)) out) out ≡ unwrapOutput (cond s WrapDone WrongInitial) key dat out
               each true = refl
               each false = refl

@@ -1,8 +1,9 @@
 -- The calls: wrapping and unwrapping under a key. Assumes nothing: these are definitions.
+use mathlib.Core.Bool.{cond}
 use Prim.Native.Nat.{ℕ, _+_, _-_}
 use mathlib.Core.List.{List}
 use lib.ListN.{length, drop}
-use Rattle.octets.specs.Octets.{choose, same, over}
+use Rattle.octets.specs.Octets.{same, over}
 use Rattle.octets.specs.Blocks.{BlockCipher}
 use Rattle.aes_sbox.specs.Sbox.{sBox}
 use Rattle.aes_schedule.specs.Schedule.{scheduleOf, keyNumber}
@@ -25,7 +26,7 @@ wrapOutput WrongInitial key dat out = out
 
 -- then 19: all eight bytes of A are compared with the initial value
 abbrev pub opening : BlockCipher → List ℕ → WrapAnswer
-opening c dat = choose (same (register (unwrapped c dat) 0) initial) WrapDone WrongInitial
+opening c dat = cond (same (register (unwrapped c dat) 0) initial) WrapDone WrongInitial
 
 unfoldable pub unwrapAnswer : (key dat out : List ℕ) → WrapAnswer
 unwrapAnswer key dat out = wrapRuled (keyNumber (scheduleOf sBox key .answer)) (wrappedSizeFits (length dat)) (length dat - 8) (length out) (opening (aesOf key) dat)

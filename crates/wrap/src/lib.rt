@@ -13,9 +13,9 @@ ghost use Prim.Native.Nat.{_+_, _%_, _≤_};
 ghost use lib.ListN.{length};
 ghost use Rattle.octets.specs.Octets.{padTo, over};
 ghost use Rattle.aes_spec.specs.Cipher.{standard};
-ghost use Rattle.aes_spec.specs.Equivalent.{oneWay};
+ghost use Rattle.aes_spec.specs.Model.{oneWay};
 ghost use Rattle.wrap_spec.specs.Wrap.{wrapped, unwrapped};
-ghost use Rattle.wrap.specs.Unwrapping.{openedOver};
+ghost use Rattle.wrap.specs.Model.{openedOver};
 ghost use Rattle.wrap.specs.Calls as spec;
 
 // Wraps 16 to 64 bytes of key data, a multiple of 8; the result, 8 bytes more, goes into the first bytes of the output.

@@ -1,8 +1,7 @@
 -- The lengths in the rule of document 02, E2, and the answers in their order (docs/REFUSALS.md). Assumes nothing: these are definitions.
 use Prim.Native.Nat.{ℕ, _%_}
-use mathlib.Core.Bool.{Bool, _&&_}
+use mathlib.Core.Bool.{Bool, _&&_, cond}
 use lib.Dec.{eqb, ltb, leb}
-use Rattle.octets.specs.Octets.{choose}
 use Rattle.wrap_answer.specs.declared.WrapAnswer.{WrapAnswer}
 use Rattle.wrap_answer.specs.declared.WrapAnswer.the-variants.{WrapDone, WrapKey, WrapSize, WrapRoom, WrongInitial}
 
@@ -25,4 +24,4 @@ sizeFits n = leb 16 n && (leb n 64 && eqb (n % 8) 0)
 -- 1, 18, 4, in that order, of the key's number, whether the length is in the rule, the length of the result and that of the output
 unfoldable pub wrapRuled : (key : ℕ) (size : Bool) (result out : ℕ) → WrapAnswer → WrapAnswer
 wrapRuled key size result out answer =
-    choose (eqb key 0) (choose size (choose (ltb out result) WrapRoom answer) WrapSize) WrapKey
+    cond (eqb key 0) (cond size (cond (ltb out result) WrapRoom answer) WrapSize) WrapKey

@@ -1,5 +1,7 @@
 // What a call of the key wrap is answered with: the lengths in the rule, the room, and A at the end.
 use aes_schedule::KeyAnswer;
+use octets_slice::equal;
+use octets_slice::part;
 ghost use mathlib.Core.Path.{_≡_};
 ghost use Prim.Native.Nat.{_+_, _-_};
 ghost use Rattle.octets.specs.Octets.{same};
@@ -89,17 +91,9 @@ pub fn judge_unwrap(key: KeyAnswer, len: usize, room: usize) -> WrapAnswer
     WrapAnswer::WrapDone
 }
 
-// Whether A is the initial value, in all its eight bytes.
+// Whether A is the initial value, in all its eight bytes: each is looked at before the answer.
 pub fn is_initial(w: &[u8]) -> bool
     ensures { λ r. ⌜ r ≡ same (register (now (w .entry)) 0) initial ⌝ }
 {
-    if w.len() < 8 {
-        return false;
-    }
-    for at in 0..8 {
-        if w[at] != 0xa6 {
-            return false;
-        }
-    }
-    true
+    equal(part(w, 0, 8), &[0xa6u8; 8])
 }

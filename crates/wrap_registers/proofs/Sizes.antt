@@ -10,7 +10,7 @@ use Rattle.octets.specs.Blocks.{BlockCipher}
 use Rattle.wrap_spec.specs.Wrap.{passes, unwrapped}
 use Rattle.wrap_answer.specs.Answers.{wrappedSizeFits}
 use Rattle.wrap_answer.proofs.Sizes.{wrapped-size-right}
-use Rattle.wrap_registers.specs.Registers.{passedOver, unpassedOver}
+use Rattle.wrap_registers.specs.Model.{passedOver, unpassedOver}
 
 -- a step number is at most 40 and 8 more, hence one byte
 pub product-fits : (n j : ℕ) → n ≤ 8 → j < 6 → n * j ≤ 40

@@ -21,7 +21,7 @@ pub fn pair(w: &[u8], i: usize) -> [u8; 16]
 }
 
 // Adds the step number to the first half. It is one byte here, so that of the 64 bits only the last eight change.
-pub fn counted(block: [u8; 16], t: usize) -> [u8; 16]
+pub fn counter_added(block: [u8; 16], t: usize) -> [u8; 16]
     requires { ⌜ t < 256 ⌝ }
     ensures { λ r. ⌜ r ≡ (msb block ⊕ counter t) ++ lsb block ⌝ }
 {

@@ -1,7 +1,7 @@
 // The registers A, R[1] to R[n] of the key wrap, through the steps of RFC 3394, 2.2.1 and 2.2.2 in their index form, in place.
 mod halves;
 
-use crate::halves::counted;
+use crate::halves::counter_added;
 use crate::halves::pair;
 use crate::halves::put_back;
 use aes_rounds::encrypt_block;
@@ -11,9 +11,9 @@ ghost use mathlib.Core.Path.{_≡_};
 ghost use Prim.Native.Nat.{_+_, _*_, _≤_, _<_};
 ghost use lib.ListN.{length};
 ghost use Rattle.aes_spec.specs.Cipher.{standard};
-ghost use Rattle.aes_spec.specs.Equivalent.{oneWay};
+ghost use Rattle.aes_spec.specs.Model.{oneWay};
 ghost use Rattle.wrap_spec.specs.Wrap as spec;
-ghost use Rattle.wrap_registers.specs.Registers.{passedOver, unpassedOver};
+ghost use Rattle.wrap_registers.specs.Model.{passedOver, unpassedOver};
 
 // For j = 0 to 5. Registers of no size in the rule stay as they are.
 pub fn passes(words: &[u32; 60], rounds: usize, w: &mut [u8])
@@ -46,7 +46,7 @@ fn step(words: &[u32; 60], rounds: usize, t: usize, i: usize, w: &mut [u8])
 {
     let given = pair(w, i);
     let made = encrypt_block(words, rounds, given);
-    put_back(w, i, counted(made, t));
+    put_back(w, i, counter_added(made, t));
 }
 
 // For j = 5 to 0. Registers of no size in the rule stay as they are.
@@ -81,7 +81,7 @@ fn unstep(words: &[u32; 60], rounds: usize, t: usize, i: usize, w: &mut [u8])
     requires { ⌜ (1 ≤ i) × (8 * i + 8 ≤ length (now w)) × (t < 256) ⌝ }
     ensures { λ _. ⌜ now (w .exit) ≡ spec.unstep (oneWay (now (words .entry)) rounds) t i (now (w .entry)) ⌝ }
 {
-    let given = counted(pair(w, i), t);
+    let given = counter_added(pair(w, i), t);
     let made = decrypt_block(words, rounds, given);
     put_back(w, i, made);
 }

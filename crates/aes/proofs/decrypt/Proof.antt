@@ -7,7 +7,7 @@ use mir.Syntax.{w8}
 use mir.Val.{Fits}
 use Rattle.octets.specs.Octets.{Octets}
 use Rattle.aes_sbox.specs.Sbox.{invSBox}
-use Rattle.aes_spec.specs.Equivalent.{eqDecryptBlock}
+use Rattle.aes_spec.specs.Model.{eqDecryptBlock}
 use Rattle.aes.proofs.Calls.{decrypt-under}
 use borrow.Author.Needs.{needs}
 use Rattle.aes.proofs.decrypt.Statement.{statement}

@@ -1,4 +1,3 @@
-use Rattle.aes_expand.specs.Expansion.{keyWord}
 use borrow.Author.Needs.{needs}
 use Rattle.aes_expand.proofs.key_word.Statement.{statement}
 use Rattle.aes_expand.proofs.key_word.Tie as tie
@@ -40,7 +39,6 @@ join-requires : tie.Need-join-requires
 join-requires c κs = search needs
 
 returns : tie.Need-returns
-unfolding keyWord
 returns c = c .join .ensures
 
 pub key-word-spec : {M : Type 1} → statement M

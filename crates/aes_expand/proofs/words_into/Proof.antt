@@ -30,8 +30,8 @@ Inv-loop2 sbox key nk n words₀ head constant₀ i₀ words constant i = (lengt
 abbrev μ-loop2 : tie.MeasureT-loop2
 μ-loop2 sbox key nk n words₀ head constant₀ i₀ words constant i = n - i
 
-shorter-requires : tie.Need-shorter-requires Inv-loop μ-loop Inv-loop3 μ-loop3 Inv-loop2 μ-loop2
-shorter-requires c κs = search needs
+smaller-requires : tie.Need-smaller-requires Inv-loop μ-loop Inv-loop3 μ-loop3 Inv-loop2 μ-loop2
+smaller-requires c κs = search needs
 
 loop-holds : tie.Need-loop-holds Inv-loop μ-loop Inv-loop3 μ-loop3 Inv-loop2 μ-loop2
 unfolding keyExpansion
@@ -81,12 +81,12 @@ loop2-holds c =
       ),
     )
 
-sub-shorter : tie.Need-sub-shorter Inv-loop μ-loop Inv-loop3 μ-loop3 Inv-loop2 μ-loop2
-sub-shorter c = search needs
+sub-smaller : tie.Need-sub-smaller Inv-loop μ-loop Inv-loop3 μ-loop3 Inv-loop2 μ-loop2
+sub-smaller c = search needs
 
-shorter-requires-2 :
-    tie.Need-shorter-requires-2 Inv-loop μ-loop Inv-loop3 μ-loop3 Inv-loop2 μ-loop2
-shorter-requires-2 c κs = search needs
+smaller-requires-2 :
+    tie.Need-smaller-requires-2 Inv-loop μ-loop Inv-loop3 μ-loop3 Inv-loop2 μ-loop2
+smaller-requires-2 c κs = search needs
 
 sub-t : tie.Need-sub-t Inv-loop μ-loop Inv-loop3 μ-loop3 Inv-loop2 μ-loop2
 sub-t c = search needs
@@ -194,7 +194,7 @@ loop2-again c =
     let k = c .before .before .before .before .before .before .before .before .before .before .loop in
     let a = c .before .before .before .before .before .before .before .before .before .before .before .before .before .before .args in
     let sub = entry (now (a .sbox)) in
-    let size = c .before .before .before .before .before .before .shorter2 .result in
+    let size = c .before .before .before .before .before .before .smaller2 .result in
     let e : min (l .i) (a .n) ≡ l .i = omega arith in
     let f : l .i + t .m ≡ min (l .i + size) (a .n) = omega arith in
     let q = l .inv .1 .1 .1 (omega arith) in
@@ -231,7 +231,7 @@ words-into-spec =
     μ-loop3
     Inv-loop2
     μ-loop2
-    shorter-requires
+    smaller-requires
     loop-holds
     key-word-requires
     mul-words
@@ -240,8 +240,8 @@ words-into-spec =
     loop-less
     loop-again
     loop2-holds
-    sub-shorter
-    shorter-requires-2
+    sub-smaller
+    smaller-requires-2
     sub-t
     mul-t
     slice-read-t

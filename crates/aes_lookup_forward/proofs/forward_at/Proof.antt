@@ -1,4 +1,4 @@
-use Rattle.aes_lookup_forward.specs.Table.{forwardEntries}
+use Rattle.aes_lookup_forward.specs.Model.{forwardEntries}
 use Rattle.octets.proofs.Arms.{last-arm}
 use Rattle.aes_lookup_forward.proofs.forward_at.Statement.{statement}
 use Rattle.aes_lookup_forward.proofs.forward_at.Tie as tie

@@ -1,4 +1,4 @@
-use Rattle.aes_lookup_inv_sbox.specs.Table.{invSBoxBytes}
+use Rattle.aes_lookup_inv_sbox.specs.Model.{invSBoxBytes}
 use Rattle.octets.proofs.Arms.{last-arm}
 use Rattle.aes_lookup_inv_sbox.proofs.inv_sub_at.Statement.{statement}
 use Rattle.aes_lookup_inv_sbox.proofs.inv_sub_at.Tie as tie

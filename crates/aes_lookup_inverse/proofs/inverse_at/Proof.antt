@@ -1,4 +1,4 @@
-use Rattle.aes_lookup_inverse.specs.Table.{inverseEntries}
+use Rattle.aes_lookup_inverse.specs.Model.{inverseEntries}
 use Rattle.octets.proofs.Arms.{last-arm}
 use Rattle.aes_lookup_inverse.proofs.inverse_at.Statement.{statement}
 use Rattle.aes_lookup_inverse.proofs.inverse_at.Tie as tie

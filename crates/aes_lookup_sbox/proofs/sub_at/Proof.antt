@@ -1,4 +1,4 @@
-use Rattle.aes_lookup_sbox.specs.Table.{sBoxBytes}
+use Rattle.aes_lookup_sbox.specs.Model.{sBoxBytes}
 use Rattle.octets.proofs.Arms.{last-arm}
 use Rattle.aes_lookup_sbox.proofs.sub_at.Statement.{statement}
 use Rattle.aes_lookup_sbox.proofs.sub_at.Tie as tie

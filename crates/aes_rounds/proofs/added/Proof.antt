@@ -8,15 +8,15 @@ use Prim.Native.Nat.{_≤_}
 use native.Mathlib.Omega.{arith}
 use Rattle.octets.proofs.Blocks.{take-octets, drop-bytes}
 use Rattle.aes_state.specs.declared.Columns.{Columns}
-use Rattle.aes_state.specs.Columns.{columnsOf}
+use Rattle.aes_state.specs.Model.{columnsOf}
 use Rattle.aes_state.proofs.ByColumns.{same-four}
 use Rattle.aes_rounds.proofs.Pieces.{added-law}
 use borrow.Author.Needs.{needs}
 use Rattle.aes_rounds.proofs.added.Statement.{statement}
 use Rattle.aes_rounds.proofs.added.Tie as tie
 
-load-requires : tie.Need-load-requires
-load-requires c κs = search needs
+columns-of-requires : tie.Need-columns-of-requires
+columns-of-requires c κs = search needs
 
 word-in-requires : tie.Need-word-in-requires
 word-in-requires c κs = search needs
@@ -42,7 +42,7 @@ word-in-requires-4 c κs = search needs
 returns : tie.Need-returns
 unfolding xor columnsOf
 returns c =
-    let f = c .before .before .before .before .before .before .before .before .load in
+    let f = c .before .before .before .before .before .before .before .before .columns-of in
     let a = c .before .before .before .before .before .before .before .before .before .before .args in
     let o : Octets 16 (a .v) = record { size = search needs; bytes = λ k. (let h : Fits w8 (getD (a .v) k 0) = search needs in h .fits) } in
     let b : Bytes (now (a .part)) = λ k. omega (arith, c .before .before .before .before .before .before .before .before .before .shared-slice-known .given k) in
@@ -58,7 +58,7 @@ pub added-spec : {M : Type 1} → statement M
 added-spec =
     tie.close
     (tie.spec
-    load-requires
+    columns-of-requires
     word-in-requires
     add-word-in
     word-in-requires-2

@@ -17,15 +17,15 @@ added-requires c κs = search needs
 cipher-requires : tie.Need-cipher-requires
 cipher-requires c κs = round-count (c .before .before .before .before .before .args .rounds) (sym (c .before .before .before .is-round-count .ensures) ∙ c .before .before .if1 .taken)
 
-store-requires : tie.Need-store-requires
-store-requires c κs = search needs
+block-of-requires : tie.Need-block-of-requires
+block-of-requires c κs = search needs
 
 returns : tie.Need-returns
 unfolding encryptBlock
 returns c =
     let a = c .before .before .before .before .before .before .before .args in
     simp (sym (c .before .before .before .before .before .is-round-count .ensures) ∙ c .before .before .before .before .if1 .taken)
-    (c .store .ensures ∙ c .before .cipher .ensures ∙ ap (cipher aes sBox (now (a .words)) (a .rounds)) (c .before .before .added .ensures))
+    (c .block-of .ensures ∙ c .before .cipher .ensures ∙ ap (cipher aes sBox (now (a .words)) (a .rounds)) (c .before .before .added .ensures))
 
 returns-2 : tie.Need-returns-2
 unfolding encryptBlock
@@ -38,6 +38,6 @@ take-in-spec =
     is-round-count-requires
     added-requires
     cipher-requires
-    store-requires
+    block-of-requires
     returns
     returns-2)

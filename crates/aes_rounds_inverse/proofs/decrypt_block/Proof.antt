@@ -6,11 +6,11 @@ use mathlib.Core.Path.{sym, ap, _∙_}
 use Rattle.octets.specs.Octets.{Octets}
 use Rattle.aes_spec.specs.State.{aes}
 use Rattle.aes_spec.proofs.Rounds.{round-count}
-use Rattle.aes_state.specs.Columns.{blockOf}
+use Rattle.aes_state.specs.Model.{blockOf}
 use Rattle.aes_state.proofs.Loaded.{loaded}
 use Rattle.aes_sbox.specs.Sbox.{invSBox}
-use Rattle.aes_spec.specs.Equivalent.{eqInvCipher}
-use Rattle.aes_spec.specs.Equivalent.{eqDecryptBlock}
+use Rattle.aes_spec.specs.Model.{eqInvCipher}
+use Rattle.aes_spec.specs.Model.{eqDecryptBlock}
 use borrow.Author.Needs.{needs}
 use Rattle.aes_rounds_inverse.proofs.decrypt_block.Statement.{statement}
 use Rattle.aes_rounds_inverse.proofs.decrypt_block.Tie as tie
@@ -18,14 +18,14 @@ use Rattle.aes_rounds_inverse.proofs.decrypt_block.Tie as tie
 is-round-count-requires : tie.Need-is-round-count-requires
 is-round-count-requires c κs = search needs
 
-load-requires : tie.Need-load-requires
-load-requires c κs = search needs
+columns-of-requires : tie.Need-columns-of-requires
+columns-of-requires c κs = search needs
 
 eq-inv-cipher-requires : tie.Need-eq-inv-cipher-requires
 eq-inv-cipher-requires c κs = round-count (c .before .before .before .args .rounds) (sym (c .before .before .is-round-count .ensures) ∙ c .before .if1 .taken)
 
-store-requires : tie.Need-store-requires
-store-requires c κs = search needs
+block-of-requires : tie.Need-block-of-requires
+block-of-requires c κs = search needs
 
 returns : tie.Need-returns
 unfolding eqDecryptBlock
@@ -33,8 +33,8 @@ returns c =
     let a = c .before .before .before .before .before .args in
     let o : Octets 16 (a .block) = record { size = search needs; bytes = λ k. (let h : Fits w8 (getD (a .block) k 0) = search needs in h .fits) } in
     simp (sym (c .before .before .before .before .is-round-count .ensures) ∙ c .before .before .before .if1 .taken)
-    (c .store .ensures ∙ c .before .eq-inv-cipher .ensures
-    ∙ ap (eqInvCipher aes invSBox (now (a .words)) (a .rounds)) (ap blockOf (c .before .before .load .ensures) ∙ loaded (a .block) o))
+    (c .block-of .ensures ∙ c .before .eq-inv-cipher .ensures
+    ∙ ap (eqInvCipher aes invSBox (now (a .words)) (a .rounds)) (ap blockOf (c .before .before .columns-of .ensures) ∙ loaded (a .block) o))
 
 returns-2 : tie.Need-returns-2
 unfolding eqDecryptBlock
@@ -45,8 +45,8 @@ decrypt-block-spec =
     tie.close
     (tie.spec
     is-round-count-requires
-    load-requires
+    columns-of-requires
     eq-inv-cipher-requires
-    store-requires
+    block-of-requires
     returns
     returns-2)

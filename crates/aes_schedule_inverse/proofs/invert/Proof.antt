@@ -3,7 +3,7 @@ use Prim.Native.Nat.{ℕ, _*_}
 use native.Mathlib.Omega.{arith}
 use denote.Ref.{now}
 use lib.ListN.{length}
-use Rattle.aes_spec.specs.Equivalent.{mixedBack, inverseWords}
+use Rattle.aes_spec.specs.Model.{mixedBack, inverseWords}
 use Rattle.aes_spec.proofs.Rounds.{round-count}
 use borrow.Author.Needs.{needs}
 use Rattle.aes_schedule_inverse.proofs.invert.Statement.{statement}

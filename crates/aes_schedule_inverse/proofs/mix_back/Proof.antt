@@ -6,7 +6,7 @@ use borrow.Author.Needs.{needs}
 use denote.Ref.{now}
 use lib.ListN.{length, getD, set, length-set}
 use Rattle.aes_mix.specs.Mixing.{invMixColumn}
-use Rattle.aes_spec.specs.Equivalent.{mixedBack}
+use Rattle.aes_spec.specs.Model.{mixedBack}
 use Rattle.aes_spec.proofs.Equivalent.{mixed-none, mixed-more}
 use Rattle.aes_schedule_inverse.proofs.mix_back.Statement.{statement}
 use Rattle.aes_schedule_inverse.proofs.mix_back.Tie as tie

@@ -25,15 +25,15 @@ part-rest-start c = search needs
 part-rest-end : tie.Need-part-rest-end
 part-rest-end c = search needs
 
-filled-requires : tie.Need-filled-requires
-filled-requires c κs = search needs
+piece-filled-requires : tie.Need-piece-filled-requires
+piece-filled-requires c κs = search needs
 
 returns : tie.Need-returns
 returns c =
     let a = c .before .before .before .before .before .args in
     let n = c .before .before .before .before-last .result in
     taken-holding (standard (now (a .words)) (a .rounds)) (a .chain) (now (a .part)) n _ _ _
-    (c .before .before .before .before-last .ensures) (c .before .before .chained .ensures) (to-end (now (a .part)) (n * 16)) (c .filled .ensures)
+    (c .before .before .before .before-last .ensures) (c .before .before .chained .ensures) (to-end (now (a .part)) (n * 16)) (c .piece-filled .ensures)
 
 pub run-from-spec : {M : Type 1} → statement M
 run-from-spec =
@@ -45,5 +45,5 @@ run-from-spec =
     sub-rest
     part-rest-start
     part-rest-end
-    filled-requires
+    piece-filled-requires
     returns)

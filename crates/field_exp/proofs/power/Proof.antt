@@ -1,5 +1,5 @@
 use native.Mathlib.Omega.{arith}
-use Rattle.field_exp.specs.Tables.{eTable}
+use Rattle.field_exp.specs.Model.{eTable}
 use Rattle.octets.proofs.Arms.{last-byte}
 use Rattle.field_exp.proofs.power.Statement.{statement}
 use Rattle.field_exp.proofs.power.Tie as tie

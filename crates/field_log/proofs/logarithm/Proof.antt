@@ -1,5 +1,5 @@
 use native.Mathlib.Omega.{arith}
-use Rattle.field_log.specs.Tables.{lTable}
+use Rattle.field_log.specs.Model.{lTable}
 use Rattle.octets.proofs.Arms.{last-byte}
 use Rattle.field_log.proofs.logarithm.Statement.{statement}
 use Rattle.field_log.proofs.logarithm.Tie as tie

@@ -1,6 +1,6 @@
 use mathlib.Core.Path.{sym, _∙_}
 use Rattle.image_spec.specs.Sealed.{checks}
-use Rattle.image_spec.specs.Lent.{usable, lentMac}
+use Rattle.image_spec.specs.Model.{usable, lentMac}
 use Rattle.image_spec.proofs.Sizes.{mac-sized}
 use Rattle.image_spec.proofs.Judging.{flip, unusable-enc, unusable-chk, usable-both, checks-by, checks-none}
 use borrow.Author.Needs.{needs}
@@ -40,20 +40,26 @@ part-check-of-end c = search needs
 check-of-requires : tie.Need-check-of-requires
 check-of-requires c κs = search needs
 
+slice-aggregate-equal : tie.Need-slice-aggregate-equal
+slice-aggregate-equal c = search needs
+
 load-requires : tie.Need-load-requires
 load-requires c κs = search needs
+
+slice-aggregate-equal-2 : tie.Need-slice-aggregate-equal-2
+slice-aggregate-equal-2 c = search needs
 
 equal-requires : tie.Need-equal-requires
 equal-requires c κs = search needs
 
 returns-4 : tie.Need-returns-4
 returns-4 c =
-    let n = c .before .before .before .before in
+    let n = c .before .before .before .before .before .before in
     let m = n .before .before in
     let w = m .before .before in
     let a = w .before .before .before .args in
     let k = lentMac (a .cwords .now) (a .rounds .chk) (a .key1 .now) (a .key2 .now) in
-    c .equal .ensures ∙ checks-by k (a .tail .now) (a .block .now) (w .if1 .left) _ _ (c .before .before .check-of .ensures) (c .before .load .ensures)
+    c .equal .ensures ∙ checks-by k (a .tail .now) (a .block .now) (w .if1 .left) _ _ (c .before .before .before .before .check-of .ensures) (c .before .before .load .ensures)
     ∙ usable-both (a .rounds) (checks k (a .tail .now) (a .block .now)) (sym (m .before .is-round-count .ensures) ∙ flip _ (m .if2 .left)) (sym (n .before .is-round-count2 .ensures) ∙ flip _ (n .if3 .left))
 
 pub check-holds-spec : {M : Type 1} → statement M
@@ -69,6 +75,8 @@ check-holds-spec =
     part-check-of-start
     part-check-of-end
     check-of-requires
+    slice-aggregate-equal
     load-requires
+    slice-aggregate-equal-2
     equal-requires
     returns-4)

@@ -1,5 +1,5 @@
 use Rattle.aes_sbox.specs.Sbox.{sBox, invSBox}
-use Rattle.aes_spec.specs.Equivalent.{equivalentCipher}
+use Rattle.aes_spec.specs.Model.{equivalentCipher}
 use Rattle.image_spec.proofs.Sizes.{encrypt-sized, decrypt-sized}
 use Rattle.image_spec.proofs.Opening.{fill-of-none, fill-of-block, fill-past}
 use Rattle.image_block_fill.proofs.fill_is_zero.Statement.{statement}

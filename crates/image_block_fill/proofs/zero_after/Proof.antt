@@ -4,7 +4,7 @@ use Prim.Native.Nat.{ℕ, _-_, _<_}
 use lib.ListN.{drop}
 use Rattle.octets.specs.Blocks.{_⊕_}
 use Rattle.aes_sbox.specs.Sbox.{sBox, invSBox}
-use Rattle.aes_spec.specs.Equivalent.{equivalentCipher}
+use Rattle.aes_spec.specs.Model.{equivalentCipher}
 use Rattle.image_spec.specs.Sealed.{allZero, zeroAfter}
 use Rattle.image_spec.proofs.Sizes.{encrypt-sized, decrypt-sized}
 use Rattle.image_spec.proofs.Opening.{left, fill-start, fill-not, fill-on, fill-end}

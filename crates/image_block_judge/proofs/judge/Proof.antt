@@ -1,6 +1,6 @@
 use mathlib.Core.Path.{ap, _∙_}
 use Rattle.image_layout.specs.Layout.{headOf}
-use Rattle.image_spec.specs.Lent.{judged}
+use Rattle.image_spec.specs.Model.{judged}
 use borrow.Author.Needs.{needs}
 use Rattle.image_block_judge.proofs.judge.Statement.{statement}
 use Rattle.image_block_judge.proofs.judge.Tie as tie

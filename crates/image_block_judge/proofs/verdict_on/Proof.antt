@@ -6,7 +6,7 @@ use Rattle.image_limits.specs.Marks.{selected, tailSize}
 use Rattle.image_progress.specs.Progress.{closed}
 use Rattle.image_spec.specs.Edition.{tailOf}
 use Rattle.image_spec.specs.Judge.{Keys}
-use Rattle.image_spec.specs.Lent.{lentKeys}
+use Rattle.image_spec.specs.Model.{lentKeys}
 use Rattle.image_spec.proofs.Sizes.{Sixteen, mac-sized}
 use Rattle.image_spec.proofs.Editions.{tail-part, tail-size-most}
 use Rattle.image_spec.proofs.Judging.{flip, both-last, both-check, both-head, both-fill, both-passed}
@@ -35,27 +35,27 @@ last-size : (s : tie.Start) → length (s .args .progress .last) ≡ 16
 last-size s = length-unmapped ℕ (s .args .progress .last) 16 (s .good .1 .1 .1 .1 .1 .1 .0 .1 .1 .1 .1 .1 .1 .0 .1 .0 .1)
 
 more : (m : Asked) → closed (start m .args .progress) ≡ false
-more m = let d = m .before .before .before .before .before .before in sym (d .before .closed .ensures) ∙ d .if1 .left
+more m = let d = m .before .before .before .before .before .before in sym (d .before .may-not-follow .ensures) ∙ d .if1 .left
 
 covered : (m : Asked) → take (m .before .before .before .tail-size .result - 0) (start m .args .progress .last) ≡ tailOf (selected (start m .args .head .reserved)) (start m .args .progress .last)
 covered m =
     let t = m .before .before .before in
     let a = start m .args in
-    tail-part (selected (a .head .reserved)) (t .tail-size .result) (a .progress .last) (last-size (start m)) (t .tail-size .ensures ∙ ap tailSize (t .before .selected .ensures))
+    tail-part (selected (a .head .reserved)) (t .tail-size .result) (a .progress .last) (last-size (start m)) (t .tail-size .ensures ∙ ap tailSize (t .before .edition-selected .ensures))
 
 -- ---- the needs
 
-closed-requires : tie.Need-closed-requires
-closed-requires c κs = search needs
+may-not-follow-requires : tie.Need-may-not-follow-requires
+may-not-follow-requires c κs = search needs
 
 returns : tie.Need-returns
 returns c =
     let s = c .before .before .before in
     let a = s .args in
-    both-last (keys s) (sized s) (a .progress) (a .block .now) (a .head) (s .pre) (sym (c .before .closed .ensures) ∙ c .if1 .taken)
+    both-last (keys s) (sized s) (a .progress) (a .block .now) (a .head) (s .pre) (sym (c .before .may-not-follow .ensures) ∙ c .if1 .taken)
 
-selected-requires : tie.Need-selected-requires
-selected-requires c κs = search needs
+edition-selected-requires : tie.Need-edition-selected-requires
+edition-selected-requires c κs = search needs
 
 tail-size-requires : tie.Need-tail-size-requires
 tail-size-requires c κs = search needs
@@ -69,7 +69,7 @@ part-check-holds-start c = search needs
 part-check-holds-end : tie.Need-part-check-holds-end
 part-check-holds-end c =
     let s = c .before .before .before .before .before .before .before in
-    omega (arith, c .before .tail-size .ensures, tail-size-most (c .before .before .selected .result), last-size s)
+    omega (arith, c .before .tail-size .ensures, tail-size-most (c .before .before .edition-selected .result), last-size s)
 
 check-holds-requires : tie.Need-check-holds-requires
 check-holds-requires c κs = search needs
@@ -81,8 +81,8 @@ returns-2 c =
     let a = s .args in
     both-check (keys s) (sized s) (a .progress) (a .block .now) (a .head) (s .pre) (more m) _ (covered m) (sym (m .check-holds .ensures) ∙ flip _ (c .if2 .taken))
 
-mark-for-requires : tie.Need-mark-for-requires
-mark-for-requires c κs = search needs
+mark-asked-for-requires : tie.Need-mark-asked-for-requires
+mark-asked-for-requires c κs = search needs
 
 judge-head-requires : tie.Need-judge-head-requires
 judge-head-requires c κs = search needs
@@ -101,7 +101,7 @@ returns-3 c =
     let s = start m in
     let a = s .args in
     both-head (keys s) (sized s) (a .progress) (a .block .now) (a .head) (s .pre) (more m) _ (covered m) (sym (m .check-holds .ensures) ∙ flip _ (i .if2 .left))
-    _ (h .before .mark-for .ensures) _ _ (h .judge-head .ensures) (c .enum-told2 .given .1)
+    _ (h .before .mark-asked-for .ensures) _ _ (h .judge-head .ensures) (c .enum-told2 .given .1)
 
 cast-len : tie.Need-cast-len
 cast-len c = search needs
@@ -118,7 +118,7 @@ returns-4 c =
     let s = start m in
     let a = s .args in
     both-fill (keys s) (sized s) (a .progress) (a .block .now) (a .head) (s .pre) (more m) _ (covered m) (sym (m .check-holds .ensures) ∙ flip _ (i .if2 .left))
-    _ (h .before .mark-for .ensures) (sym (t .enum-told .given .1) ∙ h .judge-head .ensures) (sym (c .before .fill-is-zero .ensures) ∙ flip _ (c .if3 .taken))
+    _ (h .before .mark-asked-for .ensures) (sym (t .enum-told .given .1) ∙ h .judge-head .ensures) (sym (c .before .fill-is-zero .ensures) ∙ flip _ (c .if3 .taken))
 
 returns-5 : tie.Need-returns-5
 returns-5 c =
@@ -130,22 +130,22 @@ returns-5 c =
     let a = s .args in
     t .enum-told .given .1
     ∙ both-passed (keys s) (sized s) (a .progress) (a .block .now) (a .head) (s .pre) (more m) _ (covered m) (sym (m .check-holds .ensures) ∙ flip _ (i .if2 .left))
-    _ (h .before .mark-for .ensures) (sym (t .enum-told .given .1) ∙ h .judge-head .ensures) (sym (c .before .fill-is-zero .ensures) ∙ flip _ (c .if3 .left))
+    _ (h .before .mark-asked-for .ensures) (sym (t .enum-told .given .1) ∙ h .judge-head .ensures) (sym (c .before .fill-is-zero .ensures) ∙ flip _ (c .if3 .left))
 
 pub verdict-on-spec : {M : Type 1} → statement M
 verdict-on-spec =
     tie.close
     (tie.spec
-    closed-requires
+    may-not-follow-requires
     returns
-    selected-requires
+    edition-selected-requires
     tail-size-requires
     sub-check-holds
     part-check-holds-start
     part-check-holds-end
     check-holds-requires
     returns-2
-    mark-for-requires
+    mark-asked-for-requires
     judge-head-requires
     enum-told
     enum-told-2

@@ -4,7 +4,7 @@ use Prim.Native.Nat.{ℕ}
 use lib.ListN.{length, take, drop}
 use lib.Seq.{length-take-le}
 use Rattle.aes_sbox.specs.Sbox.{sBox, invSBox}
-use Rattle.aes_spec.specs.Equivalent.{equivalentCipher, oneWay}
+use Rattle.aes_spec.specs.Model.{equivalentCipher, oneWay}
 use Rattle.modes_spec.specs.declared.Operation.the-variants.{CbcDecrypt}
 use Rattle.modes_run.proofs.Agree.{through-whole}
 use Rattle.image_spec.proofs.Sizes.{encrypt-sized, decrypt-sized, body-length}

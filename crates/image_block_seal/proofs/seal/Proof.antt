@@ -1,5 +1,5 @@
 use Rattle.aes_spec.specs.Cipher.{standard}
-use Rattle.image_spec.specs.Lent.{lentMac}
+use Rattle.image_spec.specs.Model.{lentMac}
 use Rattle.image_spec.proofs.Sealing.{seal-long, seal-short, seal-fits}
 use borrow.Author.Needs.{needs}
 use Rattle.image_block_seal.proofs.seal.Statement.{statement}

@@ -1,13 +1,13 @@
 use Rattle.image_spec.proofs.Sealing.{seal-by, middle-size}
 use Rattle.aes_spec.specs.Cipher.{standard}
-use Rattle.aes_spec.specs.Equivalent.{oneWay}
-use Rattle.image_spec.specs.Lent.{lentMac}
+use Rattle.aes_spec.specs.Model.{oneWay}
+use Rattle.image_spec.specs.Model.{lentMac}
 use Rattle.modes_run.proofs.Agree.{through-whole}
 use Rattle.modes_spec.specs.declared.Operation.the-variants.{CbcEncrypt}
 use lib.ListN.{length, take, drop}
 use Prim.Native.Nat.{ℕ}
 use mathlib.Core.List.{List}
-use Rattle.octets_block.specs.Blocks.{blockPut}
+use Rattle.octets_slice.specs.Slices.{copied}
 use Rattle.octets_slice.proofs.Laws.{copied-zeros}
 use Rattle.octets.specs.Octets.{padTo}
 use Rattle.octets.proofs.Fill.{length-padTo}
@@ -79,7 +79,7 @@ returns c =
     let o1 = st .store .last .0 in
     let first = cp .before .before .before .head-bytes .ensures in
     let size : length plain ≡ 480 = ap length filled ∙ length-padTo 480 (a .payload .now) (s .pre .0) in
-    let room : length (take 480 (drop 16 o1)) ≡ 480 = middle-size (a .head) (a .output .now) o1 (s .pre .1) (st .store .ensures ∙ ap (blockPut (a .output .now) 0) first) in
+    let room : length (take 480 (drop 16 o1)) ≡ 480 = middle-size (a .head) (a .output .now) o1 (s .pre .1) (st .store .ensures ∙ ap (λ (x : List ℕ). copied x 0 (a .output .now)) first) in
     let w = through-whole (oneWay (a .ewords .now) (a .rounds .enc)) CbcEncrypt _ plain (take 480 (drop 16 o1)) (omega arith) (size ∙ sym room) in
     seal-by (standard (a .ewords .now) (a .rounds .enc)) (lentMac (a .cwords .now) (a .rounds .chk) (a .key1 .now) (a .key2 .now)) (a .tail .now) (a .head) (a .payload .now) (a .output .now) (s .pre .0) (s .pre .1)
     _ _ _ _ _ _ _ _ first (cp .before .before .encrypt-block .ensures) filled (st .store .ensures) (ap (λ (t : List ℕ × List ℕ). t .1) (rn .run .ensures ∙ w)) (rn .run .kept .1 .1 .1 .1 .1 .0 ∙ room) refl

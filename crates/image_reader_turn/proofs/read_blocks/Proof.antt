@@ -6,7 +6,7 @@ use Rattle.aes_sbox.specs.Sbox.{sBox, invSBox}
 use Rattle.image_layout.specs.Layout.{headOf}
 use Rattle.image_progress.specs.declared.Progress.{Progress}
 use Rattle.image_spec.specs.Judge.{Keys, either, ofBoth}
-use Rattle.image_spec.specs.Lent.{lentKeys}
+use Rattle.image_spec.specs.Model.{lentKeys}
 use Rattle.image_spec.proofs.Sizes.{encrypt-sized, decrypt-sized, opened-size}
 use Rattle.image_spec.proofs.Judging.{accepted-next}
 use Rattle.image_reader_tally.specs.Tally.{blocksReadWith}
@@ -60,7 +60,7 @@ ready g =
     let l = g .before .before .before .loop in
     let s = start g in
     let a = s .args in
-    let on = goes-on (l .done) (a .k) (sym (g .before .before .goes-on .ensures) ∙ g .before .if1 .taken) in
+    let on = goes-on (l .done) (a .k) (sym (g .before .before .turn-goes-on .ensures) ∙ g .before .if1 .taken) in
     record {
       going = on .0;
       here = on .1;
@@ -73,8 +73,8 @@ ready g =
       small = λ b. accepted-next (keys g) (either (l .done .progress) (headOf b .reserved)) (l .done .progress) b;
     }
 
-goes-on-requires : tie.Need-goes-on-requires Inv-loop μ-loop
-goes-on-requires c κs = search needs
+turn-goes-on-requires : tie.Need-turn-goes-on-requires Inv-loop μ-loop
+turn-goes-on-requires c κs = search needs
 
 mul-at : tie.Need-mul-at Inv-loop μ-loop
 mul-at c = let r = ready c in omega (arith, r .here, r .most)
@@ -113,14 +113,14 @@ loop-less : tie.Need-loop-less Inv-loop μ-loop
 loop-less c =
     let rb = c .before .before in
     let r = ready (rb .before .before .before .before) in
-    one-more _ _ _ _ _ r _ (rb .before .before .read-block-arg .given .2) _ (rb .before .read-block-arg2 .given .2) _ refl _ (rb .read-block .ensures .0) _ _ _ refl (rb .read-block .ensures .1) refl .0
+    one-more _ _ _ _ _ r _ (rb .before .before .read-block-arg .given .2) _ (rb .before .read-block-arg2 .given .2) _ refl _ (ap (λ (x : BlocksRead × List ℕ). x .0) (rb .read-block .ensures)) _ _ _ refl (ap (λ (x : BlocksRead × List ℕ). x .1) (rb .read-block .ensures)) refl .0
 
 loop-again : tie.Need-loop-again Inv-loop μ-loop
 loop-again c =
     let rb = c .before .before in
     let g = rb .before .before .before .before in
     let inv = g .before .before .before .loop .inv in
-    let m = one-more _ _ _ _ _ (ready g) _ (rb .before .before .read-block-arg .given .2) _ (rb .before .read-block-arg2 .given .2) _ refl _ (rb .read-block .ensures .0) _ _ _ refl (rb .read-block .ensures .1) refl in
+    let m = one-more _ _ _ _ _ (ready g) _ (rb .before .before .read-block-arg .given .2) _ (rb .before .read-block-arg2 .given .2) _ refl _ (ap (λ (x : BlocksRead × List ℕ). x .0) (rb .read-block .ensures)) _ _ _ refl (ap (λ (x : BlocksRead × List ℕ). x .1) (rb .read-block .ensures)) refl in
     (m .1, m .2 ∙ inv .1, m .3, m .4 refl refl ∙ inv .3)
 
 same-length : tie.Need-same-length Inv-loop μ-loop
@@ -134,9 +134,8 @@ returns c =
     let a = br .before .before .before .args in
     let k = lentKeys (a .ewords .now) (a .dwords .now) (a .cwords .now) (a .key1 .now) (a .key2 .now) (a .rounds) in
     let w = readBlocks (ofBoth k) (a .progress) (cut (a .k) (a .blocks .now)) in
-    let e = ahead-end (ofBoth k) (a .blocks .now) (a .k) (l .done) (l .output) (sym (g .goes-on .ensures) ∙ c .if1 .left) ∙ l .inv .3
-    ∙ ap (λ (x : BlocksRead). finish 0 0 (a .output .now) (readBlocks (ofBoth k) (x .progress) (cut (a .k) (a .blocks .now)))) (br .blocks-read .ensures) ∙ finish-start (a .output .now) w in
-    (ap (λ (x : BlocksRead × List ℕ). x .0) e, ap (λ (x : BlocksRead × List ℕ). x .1) e)
+    ahead-end (ofBoth k) (a .blocks .now) (a .k) (l .done) (l .output) (sym (g .turn-goes-on .ensures) ∙ c .if1 .left) ∙ l .inv .3
+    ∙ ap (λ (x : BlocksRead). finish 0 0 (a .output .now) (readBlocks (ofBoth k) (x .progress) (cut (a .k) (a .blocks .now)))) (br .blocks-read .ensures) ∙ finish-start (a .output .now) w
 
 pub read-blocks-spec : {M : Type 1} → statement M
 read-blocks-spec =
@@ -146,7 +145,7 @@ read-blocks-spec =
     μ-loop
     blocks-read-requires
     loop-holds
-    goes-on-requires
+    turn-goes-on-requires
     mul-at
     mul-to
     add-read-block

@@ -32,7 +32,7 @@ returns c =
     let b : Bytes (a .blocks .now) = λ i. omega (arith, iw .before .before .before .shared-slice-known .given i) in
     let e = reading-is _ _ _ (a .ewords .now) (a .cwords .now) (a .rounds) (iw .inverse-words .ensures) (k2 .before .key1 .ensures) (k2 .key2 .ensures)
     (a .k) (a .progress) (a .blocks .now) (s .pre .0) b in
-    (rn .read-blocks .ensures .0 ∙ ap blocksRead e, rn .read-blocks .ensures .1 ∙ ap (λ (x : Reading). over (x .out) (a .output .now)) e)
+    rn .read-blocks .ensures ∙ ap (λ (x : Reading). (blocksRead x, over (x .out) (a .output .now))) e
 
 pub read-under-spec : {M : Type 1} → statement M
 read-under-spec =

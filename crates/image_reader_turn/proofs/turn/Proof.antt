@@ -34,8 +34,8 @@ returns-2 c =
     let a = m .before .before .before .args in
     ap (λ (x : BlocksRead). (x, a .output .now)) (c .blocks-read2 .ensures) ∙ turn-lent (keysUnder (a .ewords .now) (a .cwords .now) (a .rounds)) (a .progress) (a .blocks .now) (a .asked) (a .output .now) (sym (m .may-ask .ensures) ∙ flip _ (n .if1 .left)) (ne-eqb _ _ (c .before .if2 .taken))
 
-smaller-requires : tie.Need-smaller-requires
-smaller-requires c κs = search needs
+handled-requires : tie.Need-handled-requires
+handled-requires c κs = search needs
 
 mul-if3 : tie.Need-mul-if3
 mul-if3 c =
@@ -44,7 +44,7 @@ mul-if3 c =
     let a = m .before .before .before .args in
     let x = a .asked in
     let h = asked-most (keysUnder (a .ewords .now) (a .cwords .now) (a .rounds)) (a .progress) (a .blocks .now) x (a .output .now) (sym (m .may-ask .ensures) ∙ flip _ (n .if1 .left)) in
-    omega (arith, c .smaller .ensures, min-le-left x (length (a .blocks .now) / 512), h)
+    omega (arith, c .handled .ensures, min-le-left x (length (a .blocks .now) / 512), h)
 
 blocks-read-requires-3 : tie.Need-blocks-read-requires-3
 blocks-read-requires-3 c κs = search needs
@@ -56,7 +56,7 @@ returns-3 c =
     let m = n .before in
     let a = m .before .before .before .args in
     ap (λ (x : BlocksRead). (x, a .output .now)) (c .blocks-read3 .ensures)
-    ∙ turn-room (keysUnder (a .ewords .now) (a .cwords .now) (a .rounds)) (a .progress) (a .blocks .now) (a .asked) (a .output .now) (sym (m .may-ask .ensures) ∙ flip _ (n .if1 .left)) (eq-eqb _ _ (p .if2 .left)) _ (c .before .before .smaller .ensures) (lt-ltb _ _ (c .before .if3 .taken))
+    ∙ turn-room (keysUnder (a .ewords .now) (a .cwords .now) (a .rounds)) (a .progress) (a .blocks .now) (a .asked) (a .output .now) (sym (m .may-ask .ensures) ∙ flip _ (n .if1 .left)) (eq-eqb _ _ (p .if2 .left)) _ (c .before .before .handled .ensures) (lt-ltb _ _ (c .before .if3 .taken))
 
 read-under-requires : tie.Need-read-under-requires
 read-under-requires c κs =
@@ -67,7 +67,7 @@ read-under-requires c κs =
     let x = a .asked in
     let y = length (a .blocks .now) / 512 in
     let h = asked-most (keysUnder (a .ewords .now) (a .cwords .now) (a .rounds)) (a .progress) (a .blocks .now) x (a .output .now) (sym (m .may-ask .ensures) ∙ flip _ (n .if1 .left)) in
-    omega (arith, c .before .if3 .left, c .before .before .smaller .ensures, min-le-left x y, min-le-right x y, h)
+    omega (arith, c .before .if3 .left, c .before .before .handled .ensures, min-le-left x y, min-le-right x y, h)
 
 same-length : tie.Need-same-length
 same-length c = search needs
@@ -80,7 +80,7 @@ returns-4 c =
     let m = n .before in
     let a = m .before .before .before .args in
     turn-read (keysUnder (a .ewords .now) (a .cwords .now) (a .rounds)) (a .progress) (a .blocks .now) (a .asked) (a .output .now) (sym (m .may-ask .ensures) ∙ flip _ (n .if1 .left)) (eq-eqb _ _ (p .if2 .left))
-    _ (q .before .smaller .ensures) (le-ltb _ _ (q .if3 .left)) _ _ (c .before .before .read-under .ensures .0) (c .before .before .read-under .ensures .1)
+    _ (q .before .handled .ensures) (le-ltb _ _ (q .if3 .left)) _ (c .before .before .read-under .ensures)
 
 pub turn-spec : {M : Type 1} → statement M
 turn-spec =
@@ -91,7 +91,7 @@ turn-spec =
     returns
     blocks-read-requires-2
     returns-2
-    smaller-requires
+    handled-requires
     mul-if3
     blocks-read-requires-3
     returns-3

@@ -1,7 +1,7 @@
 use Prim.Native.Nat.{ℕ}
 use Rattle.modes_run.proofs.Agree.{through-forward, through-backward}
-use Rattle.modes_run.specs.Runs.{runOver}
-use Rattle.aes_spec.specs.Equivalent.{oneWay, inverseWords}
+use Rattle.modes_run.specs.Model.{runOver}
+use Rattle.aes_spec.specs.Model.{oneWay, inverseWords}
 use denote.Ref.{now}
 use mathlib.Core.List.{List}
 use mathlib.Core.Path.{sym, ap, _∙_}

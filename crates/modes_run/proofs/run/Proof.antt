@@ -1,16 +1,16 @@
 use mathlib.Core.Path.{sym, _∙_}
 use denote.Ref.{now}
-use Rattle.aes_spec.specs.Equivalent.{oneWay}
+use Rattle.aes_spec.specs.Model.{oneWay}
 use Rattle.modes_run.proofs.Runs.{run-whole, run-all}
 use borrow.Author.Needs.{needs}
 use Rattle.modes_run.proofs.run.Statement.{statement}
 use Rattle.modes_run.proofs.run.Tie as tie
 
-shorter-requires : tie.Need-shorter-requires
-shorter-requires c κs = search needs
+smaller-requires : tie.Need-smaller-requires
+smaller-requires c κs = search needs
 
-in-order-requires : tie.Need-in-order-requires
-in-order-requires c κs = search needs
+whole-pieces-requires : tie.Need-whole-pieces-requires
+whole-pieces-requires c κs = search needs
 
 any-length-requires : tie.Need-any-length-requires
 any-length-requires c κs = search needs
@@ -48,8 +48,8 @@ returns c =
     let w = any .before .before .before in
     let s = w .before .before in
     let a = s .before .before .before .args in
-    run-all (oneWay (now (a .words)) (a .rounds)) (a .operation) (a .iv) (now (a .input)) (now (a .output)) _ _ (w .in-order .ensures)
-    (sym (any .any-length .ensures) ∙ c .before .before .before .before .before .if1 .taken) _ (s .shorter .ensures) (search needs) _ _ (c .before .before .last-piece .ensures)
+    run-all (oneWay (now (a .words)) (a .rounds)) (a .operation) (a .iv) (now (a .input)) (now (a .output)) _ _ (w .whole-pieces .ensures)
+    (sym (any .any-length .ensures) ∙ c .before .before .before .before .before .if1 .taken) _ (s .smaller .ensures) (search needs) _ _ (c .before .before .last-piece .ensures)
 
 same-length-2 : tie.Need-same-length-2
 same-length-2 c = search needs
@@ -58,15 +58,15 @@ returns-2 : tie.Need-returns-2
 returns-2 c =
     let w = c .before .before .before .before in
     let a = w .before .before .before .before .before .args in
-    run-whole (oneWay (now (a .words)) (a .rounds)) (a .operation) (a .iv) (now (a .input)) (now (a .output)) _ _ (w .in-order .ensures)
+    run-whole (oneWay (now (a .words)) (a .rounds)) (a .operation) (a .iv) (now (a .input)) (now (a .output)) _ _ (w .whole-pieces .ensures)
     (sym (c .before .any-length .ensures) ∙ c .if1 .left)
 
 pub run-spec : {M : Type 1} → statement M
 run-spec =
     tie.close
     (tie.spec
-    shorter-requires
-    in-order-requires
+    smaller-requires
+    whole-pieces-requires
     any-length-requires
     mul-at
     sub-last-piece

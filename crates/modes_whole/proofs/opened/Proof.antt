@@ -5,7 +5,7 @@ use denote.Ref.{now}
 use lib.ListN.{length, drop}
 use lib.Seq.{paste}
 use Rattle.octets.specs.Blocks.{_⊕_}
-use Rattle.aes_spec.specs.Equivalent.{oneWay}
+use Rattle.aes_spec.specs.Model.{oneWay}
 use Rattle.modes_spec.specs.Modes.{machine}
 use Rattle.modes_spec.specs.Pieces.{piece, outputOf, after}
 use Rattle.modes_spec.specs.declared.Operation.the-variants.{CbcDecrypt}
@@ -70,7 +70,7 @@ loop-again c =
     let ef : f ≡ m .out st (piece 16 inp (l .i)) = x .xor .ensures ∙ ap₂ _⊕_ (x .before .decrypt-block .ensures ∙ ap (e .dec) p) (l .inv .3) in
     let lo : length (m .out st (piece 16 inp (l .i))) ≡ 16 = ap length (sym ef) ∙ lf in
     let put : w .last .0 ≡ paste (l .output) (l .i * 16) (m .out st (piece 16 inp (l .i))) 16 =
-    w .ensures ∙ block-put (l .output) (l .i * 16) (omega arith) f ∙ ap (λ (y : List ℕ). paste (l .output) (l .i * 16) y 16) ef in (
+    w .ensures ∙ block-put (l .output) (l .i * 16) (omega arith) f lf ∙ ap (λ (y : List ℕ). paste (l .output) (l .i * 16) y 16) ef in (
       search needs,
       search needs,
       more-length m (a .iv) inp (now (a .output)) (l .i) (l .inv .2) lo,

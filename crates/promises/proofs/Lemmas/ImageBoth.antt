@@ -1,6 +1,6 @@
 -- A reader of both editions: each block that it takes is one of the reader of its edition, and no build takes a block of another. Assumes nothing.
 use mathlib.Core.Path.{_≡_, refl, sym, ap, subst, _∙_}
-use mathlib.Core.Bool.{Bool, true, false, _||_}
+use mathlib.Core.Bool.{Bool, true, false, _||_, cond}
 use mathlib.Core.Logic.{_⊎_, inl, inr, ⊎-elim}
 use mathlib.Core.List.{List, [], _∷_, _++_}
 use Prim.Native.Nat.{ℕ, zero, suc, _≤_, _<_}
@@ -9,7 +9,7 @@ use borrow.Author.Tests.{eqb-true, eqb-false, ltb-true, ltb-false, lt-ltb}
 use lib.Dec.{eqb, ltb}
 use lib.ListN.{length, getD, take, drop, length-append, List·getD-append}
 use lib.Seq.{drop-at, length-take-le}
-use Rattle.octets.specs.Octets.{choose, Bytes, Octets}
+use Rattle.octets.specs.Octets.{Bytes, Octets}
 use Rattle.octets.specs.Blocks.{BlockCipher, Lawful}
 use Rattle.octets.proofs.Blocks.{take-bytes, append-bytes}
 use Rattle.octets.proofs.Same.{same-true}
@@ -24,7 +24,7 @@ use Rattle.image_spec.specs.Edition.{tailOf, edition}
 use Rattle.image_spec.specs.Sealed.{sealed, checks}
 use Rattle.image_spec.specs.Judge.{Keys, always, either, ofBoth, fresh, taken}
 use Rattle.image_reader_turn.specs.Turn.{Reading, readBlocks}
-use Rattle.promises.proofs.ImageTerms.{Right, Met, Blocks}
+use Rattle.promises.proofs.Image.Words.{Right, Met, Blocks}
 use Rattle.promises.proofs.Lemmas.ImageSealed.{sealed-size, sealed-bytes, sealed-checks}
 use Rattle.promises.proofs.Lemmas.ImageJudge.{accepted-met, met-accepted}
 use Rattle.promises.proofs.Lemmas.ImageTurn.{by-verdict}
@@ -41,7 +41,7 @@ pub mark-names : (n v : ℕ) → v < 65536 → v ≡ markOf n → (isEdition n �
 unfolding markOf isEdition selected
 mark-names n v h e = go (eqb n 1) (eqb n 2) refl refl e
   where
-    go : (t u : Bool) → eqb n 1 ≡ t → eqb n 2 ≡ u → v ≡ choose t 0 (choose u 2 65536) → ((t || u) ≡ true) × (choose (eqb v 2) 2 1 ≡ n)
+    go : (t u : Bool) → eqb n 1 ≡ t → eqb n 2 ≡ u → v ≡ cond t 0 (cond u 2 65536) → ((t || u) ≡ true) × (cond (eqb v 2) 2 1 ≡ n)
     go true u p q f = (refl, rw f (sym (eqb-true n 1 p)))
     go false true p q f = (refl, rw f (sym (eqb-true n 2 q)))
     go false false p q f = absurd (omega arith)
@@ -50,7 +50,7 @@ pub mark-fits : (n : ℕ) → isEdition n ≡ true → markOf n < 65536
 unfolding markOf isEdition
 mark-fits n e = go (eqb n 1) (eqb n 2) e
   where
-    go : (t u : Bool) → (t || u) ≡ true → choose t 0 (choose u 2 65536) < 65536
+    go : (t u : Bool) → (t || u) ≡ true → cond t 0 (cond u 2 65536) < 65536
     go true u q = omega arith
     go false true q = omega arith
     go false false q = let y : _≡_ {A = ℕ} 0 1 = cc in absurd (omega arith)
@@ -65,9 +65,9 @@ unfolding markFor markOf
 no-mark s v h n0 n2 e = go (eqb n 1) (eqb n 2) e
   where
     n : ℕ
-    n = choose (ltb 0 (s .next)) (s .edition) (selected v)
+    n = cond (ltb 0 (s .next)) (s .edition) (selected v)
 
-    go : (t u : Bool) → v ≡ choose t 0 (choose u 2 65536) → ⊥
+    go : (t u : Bool) → v ≡ cond t 0 (cond u 2 65536) → ⊥
     go true u q = n0 q
     go false true q = n2 q
     go false false q = omega arith
@@ -75,13 +75,13 @@ no-mark s v h n0 n2 e = go (eqb n 1) (eqb n 2) e
 -- once an edition is fixed, the mark is that of no other
 pub mark-fixed : (s : Progress) (v : ℕ) → v < 65536 → 0 < s .next → v ≡ markFor s v → selected v ≡ s .edition
 unfolding markFor
-mark-fixed s v h f e = mark-names (s .edition) v h (e ∙ ap (λ (t : Bool). markOf (choose t (s .edition) (selected v))) (lt-ltb 0 (s .next) f)) .1
+mark-fixed s v h f e = mark-names (s .edition) v h (e ∙ ap (λ (t : Bool). markOf (cond t (s .edition) (selected v))) (lt-ltb 0 (s .next) f)) .1
 
 mark-same : (s : Progress) (v n : ℕ) → selected v ≡ n → (0 < s .next → s .edition ≡ n) → markFor s v ≡ markOf n
 unfolding markFor
 mark-same s v n e f = go (ltb 0 (s .next)) refl
   where
-    go : (t : Bool) → ltb 0 (s .next) ≡ t → markOf (choose t (s .edition) (selected v)) ≡ markOf n
+    go : (t : Bool) → ltb 0 (s .next) ≡ t → markOf (cond t (s .edition) (selected v)) ≡ markOf n
     go true q = ap markOf (f (ltb-true 0 (s .next) q))
     go false q = ap markOf e
 
@@ -116,7 +116,7 @@ module _ (k : Keys) (s : Progress) (b : List ℕ) (w : Bytes b) where
   pub met-one : Met k (either s v) s b → Met k (edition (selected v)) s b × (isEdition (selected v) ≡ true) × (0 < s .next → s .edition ≡ selected v)
   unfolding markFor
   met-one m =
-      let n = choose (ltb 0 (s .next)) (s .edition) (selected v) in
+      let n = cond (ltb 0 (s .next)) (s .edition) (selected v) in
       let g = mark-names n v (reserved-wide b w) (m .head-right .marked) in
       let e : markFor s v ≡ markOf (selected v) = ap markOf (sym (g .1)) in (
         record { usable-keys = m .usable-keys; check-right = m .check-right; head-right = subst (λ (x : ℕ). Right x s (headOf b)) e (m .head-right); fill-zero = m .fill-zero },

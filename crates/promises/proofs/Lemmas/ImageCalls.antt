@@ -1,6 +1,6 @@
 -- The writer's and the reader's calls by what they rest on: keys that were taken, blocks that were sealed, runs over lent blocks. Assumes nothing.
 use mathlib.Core.Path.{_≡_, refl, sym, ap, ap₂, subst, _∙_}
-use mathlib.Core.Bool.{Bool, true, false, _&&_, not, true≢false}
+use mathlib.Core.Bool.{Bool, true, false, _&&_, not, true≢false, cond}
 use mathlib.Core.List.{List, [], _∷_, append-nil}
 use Prim.Native.Nat.{ℕ, zero, suc, _*_, _%_, _≤_, _<_}
 use native.Mathlib.Nat.{add-zero}
@@ -10,7 +10,7 @@ use lib.Dec.{eqb, ltb, leb}
 use lib.ListN.{length, take, drop, length-drop, replicate}
 use lib.Seq.{take-at, drop-at, take-all}
 use Rattle.octets.proofs.Both.{and-true}
-use Rattle.octets.specs.Octets.{Octets, choose, Bytes, over}
+use Rattle.octets.specs.Octets.{Octets, Bytes, over}
 use Rattle.octets.specs.Blocks.{Lawful}
 use Rattle.octets.proofs.Blocks.{take-octets, drop-bytes}
 use Rattle.aes_sbox.specs.Sbox.{sBox}
@@ -28,12 +28,12 @@ use Rattle.image_layout.proofs.Laws.{Wide}
 use Rattle.image_spec.specs.Edition.{tailOf, edition}
 use Rattle.image_spec.specs.Sealed.{headFor, opened}
 use Rattle.image_spec.specs.Judge.{Keys, either, fresh, taken}
-use Rattle.image_spec.specs.Lent.{bothTaken}
+use Rattle.image_spec.specs.Model.{bothTaken}
 use Rattle.image_reader_turn.specs.Turn.{Reading, readBlocks, cut, handled, whole, blocksRead, turnUnder}
 use Rattle.image_writer_answer.specs.Answers.{lastFor, writeRuled}
 use Rattle.image_writer.specs.Calls.{blockOf, writeAnswer, writeOutput}
 use Rattle.image_reader.specs.Calls.{startedBy, startOf}
-use Rattle.image.specs.Calls.{keysOf, blocksBy, turnAfter, turnOf}
+use Rattle.image_reader.specs.Calls.{keysOf, blocksBy, turnAfter, turnOf}
 use Rattle.image_reader_tally.specs.declared.BlocksRead.{BlocksRead}
 use Rattle.image_writer_answer.specs.declared.WriteAnswer.{WriteAnswer}
 use Rattle.image_writer_answer.specs.declared.WriteAnswer.the-variants.{Written, WriteKey, WriteCount, WriteNumber, WriteLength, WriteEdition, WriteRoom}
@@ -43,8 +43,8 @@ use Rattle.image_reader_tally.specs.declared.Stop.the-variants.{End, Asked, Len
 use Rattle.image_reader.specs.declared.Turn.{Turn}
 use Rattle.image_spec.proofs.Editions.{tail-bytes}
 use Rattle.image_writer.proofs.Calls.{last-bytes, last-size, mark-small}
-use Rattle.promises.proofs.ImageTerms.{Blocks, Fit, WriteSays, inState, readingOf, given, Fair, StopSays}
-use Rattle.promises.proofs.Keys.{KeyTaken}
+use Rattle.promises.proofs.Image.Words.{Blocks, Fit, WriteSays, inState, readingOf, given, Fair, StopSays}
+use Rattle.promises.proofs.Aes.Keys.{KeyTaken}
 use Rattle.promises.proofs.Lemmas.ImageSealed.{sealed-size}
 use Rattle.promises.proofs.Lemmas.ImageJudge.{fits-le, count-fits, fits-count}
 use Rattle.promises.proofs.Lemmas.ImageTurn.{ran-accepted, out-length, none-accepted, no-keys-none, accepted-le}
@@ -60,7 +60,7 @@ unfolding scheduleOf schedule.taken schedule.refused
 key-known key = each (eqb (length key) 16) (eqb (length key) 24) (eqb (length key) 32)
   where
     made : Bool → Bool → Bool → Expanded
-    made a b c = choose a (schedule.taken sBox key 4 10) (choose b (schedule.taken sBox key 6 12) (choose c (schedule.taken sBox key 8 14) schedule.refused))
+    made a b c = cond a (schedule.taken sBox key 4 10) (cond b (schedule.taken sBox key 6 12) (cond c (schedule.taken sBox key 8 14) schedule.refused))
 
     each : (a b c : Bool) → keyNumber (made a b c .answer) ≡ 0 → roundCount (made a b c .schedule .rounds) ≡ true
     each true b c e = refl
@@ -172,7 +172,7 @@ write-ruled keys n len room P k c m l e o d =
     go keys (countFits (n .count)) (ltb (n .number) (n .count)) (lengthFits (n .number) (n .count) len) (isEdition (n .edition)) (ltb room 512) refl refl refl refl refl refl
   where
     go : (a b u v i w : Bool) → keys ≡ a → countFits (n .count) ≡ b → ltb (n .number) (n .count) ≡ u → lengthFits (n .number) (n .count) len ≡ v → isEdition (n .edition) ≡ i → ltb room 512 ≡ w
-        → P (choose (not a) WriteKey (choose (not b) WriteCount (choose (not u) WriteNumber (choose (not v) WriteLength (choose (not i) WriteEdition (choose w WriteRoom Written))))))
+        → P (cond (not a) WriteKey (cond (not b) WriteCount (cond (not u) WriteNumber (cond (not v) WriteLength (cond (not i) WriteEdition (cond w WriteRoom Written))))))
     go false b u v i w ea eb eu ev ei ew = k ea
     go true false u v i w ea eb eu ev ei ew = c ea (λ x y. true≢false (sym (fits-count (n .count) x y) ∙ eb))
     go true true false v i w ea eb eu ev ei ew = let f = count-fits (n .count) eb in m ea (f .0) (f .1) (ltb-false (n .number) (n .count) eu)
@@ -288,7 +288,7 @@ module _ (r : Reader) (lent : List ℕ) (asked : ℕ) (out : List ℕ) where
   told-turn P a l o f = go (ltb 0 asked && leb asked 128) (eqb (length lent % 512) 0) (ltb (length out) (handled lent asked * 480)) refl refl refl
     where
       all : (x y z : Bool) → BlocksRead × List ℕ
-      all x y z = choose (not x) (whole (r .progress) Asked, out) (choose (not y) (whole (r .progress) Lent, out) (choose z (whole (r .progress) Room, out) (blocksRead (readingOf r lent asked), over (readingOf r lent asked .out) out)))
+      all x y z = cond (not x) (whole (r .progress) Asked, out) (cond (not y) (whole (r .progress) Lent, out) (cond z (whole (r .progress) Room, out) (blocksRead (readingOf r lent asked), over (readingOf r lent asked .out) out)))
 
       bad : (ltb 0 asked && leb asked 128) ≡ false → 0 < asked → asked ≤ 128 → ⊥
       bad e p q =

@@ -1,7 +1,7 @@
 -- What a reader asks of a block: a sealed block in the right state is accepted, a damaged one never, and an accepted one was sealed. Assumes nothing.
 use mathlib.Core.Path.{_≡_, refl, sym, ap, ap₂, subst, _∙_}
 use mathlib.Core.Logic.{⊎-elim}
-use mathlib.Core.Bool.{Bool, true, false, _&&_, _||_, not}
+use mathlib.Core.Bool.{Bool, true, false, _&&_, _||_, not, cond}
 use mathlib.Core.List.{List, [], _∷_, _++_}
 use Prim.Native.Nat.{ℕ, zero, suc, _+_, _-_, _%_, _≤_, _<_}
 use native.Mathlib.Nat.{eq-or-lt-of-le}
@@ -10,7 +10,7 @@ use borrow.Author.Tests.{eqb-true, eqb-false, eq-eqb, ne-eqb, ltb-true, ltb-fals
 use lib.Dec.{eqb, ltb, leb}
 use lib.ListN.{length, take, drop, length-drop, take-append-drop}
 use lib.Seq.{length-take-le, take-add}
-use Rattle.octets.specs.Octets.{choose, Bytes, Octets}
+use Rattle.octets.specs.Octets.{Bytes, Octets}
 use Rattle.octets.specs.Blocks.{BlockCipher, Lawful}
 use Rattle.octets.proofs.Blocks.{take-bytes, drop-bytes, take-octets}
 use Rattle.modes_spec.specs.Modes.{moded}
@@ -35,7 +35,7 @@ use Rattle.octets.proofs.Both.{and-true}
 use Rattle.image_spec.specs.Sealed.{filled, front, sealed, opened, checks, zeroAfter, fillZero}
 use Rattle.image_spec.specs.Edition.{Edition}
 use Rattle.image_spec.specs.Judge.{Keys, tests, judge}
-use Rattle.promises.proofs.ImageTerms.{Right, Met, HeadRow, Row, rank, HeadSays, Says, unchecked, payload}
+use Rattle.promises.proofs.Image.Words.{Right, Met, HeadRow, Row, rank, HeadSays, Says, unchecked, payload}
 use Rattle.promises.proofs.Lemmas.ImageSealed.{fill-of, sealed-size, sealed-bytes, sealed-checks, sealed-head, sealed-fill, same-block}
 
 -- ---- tests
@@ -147,7 +147,7 @@ pub fits-le : (number count len : ℕ) → lengthFits number count len ≡ true 
 unfolding lengthFits
 fits-le number count len e = go (eqb (number + 1) count) e
   where
-    go : (t : Bool) → choose t (leb len 480 && (ltb 0 len || eqb count 1)) (eqb len 480) ≡ true → len ≤ 480
+    go : (t : Bool) → cond t (leb len 480 && (ltb 0 len || eqb count 1)) (eqb len 480) ≡ true → len ≤ 480
     go true e = leb-true len 480 (and-true (leb len 480) (ltb 0 len || eqb count 1) e .0)
     go false e = omega (arith, eqb-true len 480 e)
 
@@ -212,7 +212,7 @@ first-told R i (t ∷ ts) w holds none r e = go (t .0) refl e (first-told R (suc
     here : (q : Reason) → rank q ≡ i → R q → t .0 ≡ true
     here q h x = let z : rank q - i ≡ 0 = omega arith in ap (testAt (t ∷ ts)) (sym z) ∙ holds q x (omega arith)
 
-    go : (b : Bool) → t .0 ≡ b → choose b (Refused (t .1)) (firstOf ts) ≡ Refused r
+    go : (b : Bool) → t .0 ≡ b → cond b (Refused (t .1)) (firstOf ts) ≡ Refused r
         → (((q : Reason) → rank q < suc i → R q → ⊥) → (r : Reason) → firstOf ts ≡ Refused r → R r × ((q : Reason) → rank q < rank r → R q → ⊥))
         → R r × ((q : Reason) → rank q < rank r → R q → ⊥)
     go true f g rest =

@@ -27,10 +27,10 @@ use Rattle.image_spec.specs.Sealed.{headFor, blockFor, sealed}
 use Rattle.image_spec.specs.Judge.{Keys, Rule, always, either, byRule, ofBoth, fresh, taken}
 use Rattle.image_reader_turn.specs.Turn.{Reading, readBlocks, blocksRead}
 use Rattle.image_reader_tally.specs.declared.Stop.the-variants.{End}
-use Rattle.image.specs.Calls.{keysOf, turnAfter, turnOf}
+use Rattle.image_reader.specs.Calls.{keysOf, turnAfter, turnOf}
 use Rattle.image_reader.specs.declared.Reader.{Reader}
 use Rattle.image_reader.specs.declared.Turn.{Turn}
-use Rattle.promises.proofs.ImageTerms.{Proper, Met, Blocks, payload, parts, blocks, written, image, readingOf, given, Fair, Lending, AllFair, offered, readerAfter, AllAccepted}
+use Rattle.promises.proofs.Image.Words.{Proper, Met, Blocks, payload, parts, blocks, written, image, readingOf, given, Fair, Lending, AllFair, offered, readerAfter, AllAccepted}
 use Rattle.promises.proofs.Lemmas.ImageSealed.{sealed-head}
 use Rattle.promises.proofs.Lemmas.ImageJudge.{accepted-met, right-below, fits-le, payload-length, payload-bytes, accepted-sealed}
 use Rattle.promises.proofs.Lemmas.ImageTurn.{by-verdict, later-end, not-end}

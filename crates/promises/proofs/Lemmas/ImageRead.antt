@@ -1,11 +1,11 @@
 -- What the writer wrote, as the reader takes it, in one turn or in many. Assumes nothing.
 use mathlib.Core.Path.{_≡_, refl, sym, ap, ap₂, subst, _∙_}
-use mathlib.Core.Bool.{Bool, true, false}
+use mathlib.Core.Bool.{Bool, true, false, cond}
 use mathlib.Core.List.{List, [], _∷_, _++_, append-assoc}
 use Prim.Native.Nat.{ℕ, _+_, _≤_, _<_}
 use native.Mathlib.Omega.{arith}
 use lib.ListN.{length, take, drop, length-append}
-use Rattle.octets.specs.Octets.{choose, Bytes, Octets, over}
+use Rattle.octets.specs.Octets.{Bytes, Octets, over}
 use Rattle.octets.specs.Blocks.{BlockCipher, Lawful}
 use Rattle.aes_spec.specs.Cipher.{aesOf}
 use Rattle.aes_spec.proofs.Aes.{key-lawful}
@@ -24,12 +24,12 @@ use Rattle.image_spec.specs.Judge.{Keys, judge, either, ofBoth}
 use Rattle.image_reader_turn.specs.Turn.{Reading, readBlocks, handled, blocksRead}
 use Rattle.image_writer_answer.specs.Answers.{lastFor}
 use Rattle.image_writer.specs.Calls.{blockOf}
-use Rattle.image.specs.Calls.{keysOf, turnAfter}
+use Rattle.image_reader.specs.Calls.{keysOf, turnAfter}
 use Rattle.image_writer_answer.specs.declared.Numbers.{Numbers}
 use Rattle.image_reader.specs.declared.Reader.{Reader}
 use Rattle.image_reader_tally.specs.declared.Stop.the-variants.{End}
 use Rattle.image_reader.specs.declared.Turn.{Turn}
-use Rattle.promises.proofs.ImageTerms.{Met, SealedOn, readingOf, unchecked, Blocks, payload, plains, parts, lengths, AllFilled, partsIn, Fit, Wrote, readerOf, Waits, FromStart, Sound, given, Lending, AllFair, offered, readerAfter, AllAccepted, handedOut, counted, started, turn}
+use Rattle.promises.proofs.Image.Words.{Met, SealedOn, readingOf, unchecked, Blocks, payload, plains, parts, lengths, AllFilled, partsIn, Fit, Wrote, readerOf, Waits, FromStart, Sound, given, Lending, AllFair, offered, readerAfter, AllAccepted, handedOut, counted, started, turn}
 use Rattle.promises.proofs.Lemmas.ImageSealed.{sealed-size, sealed-bytes, sealed-opened, sealed-head}
 use Rattle.promises.proofs.Lemmas.ImageJudge.{accepted-met, met-accepted, wrong-check, damaged-check, sealed-accepted}
 use Rattle.promises.proofs.Lemmas.ImageBoth.{reserved-wide, mark-selects, mark-fixed, one-met, on-one-check}
@@ -41,7 +41,7 @@ use Rattle.promises.proofs.Lemmas.ImageCalls.{keysUnder, start-fresh, f
 refused-accepted : (t : Progress) → unchecked t ≡ Accepted → ⊥
 refused-accepted t = go (closed t)
   where
-    go : (u : Bool) → choose u (Refused AfterLast) (Refused CheckWrong) ≡ Accepted → ⊥
+    go : (u : Bool) → cond u (Refused AfterLast) (Refused CheckWrong) ≡ Accepted → ⊥
     go true e = let z : _≡_ {A = ℕ} 0 1 = cc in omega arith
     go false e = let z : _≡_ {A = ℕ} 0 1 = cc in omega arith
 

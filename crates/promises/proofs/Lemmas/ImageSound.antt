@@ -12,7 +12,7 @@ use Rattle.image_progress.specs.declared.Progress.{Progress}
 use Rattle.image_reasons.specs.declared.Verdict.the-variants.{Accepted}
 use Rattle.image_spec.specs.Judge.{Keys, Rule, byRule, fresh, taken}
 use Rattle.image_reader_turn.specs.Turn.{Reading, readBlocks}
-use Rattle.promises.proofs.ImageTerms.{Sound}
+use Rattle.promises.proofs.Image.Words.{Sound}
 use Rattle.promises.proofs.Lemmas.ImageJudge.{accepted-met, right-below}
 use Rattle.promises.proofs.Lemmas.ImageTurn.{by-verdict}
 

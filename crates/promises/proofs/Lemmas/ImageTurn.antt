@@ -18,7 +18,7 @@ use Rattle.image_spec.specs.Judge.{Keys, BlockReader, Rule, byRule, taken}
 use Rattle.image_reader_turn.specs.Turn.{Reading, later, onward, readBlocks}
 use Rattle.image_reader_tally.specs.declared.Stop.{Stop}
 use Rattle.image_reader_tally.specs.declared.Stop.the-variants.{End, Asked, Lent, Room, At}
-use Rattle.promises.proofs.ImageTerms.{AllMet, Blocks, payload, plains, parts, lengths, AllFilled, partsIn, moved, laterBy, andThen}
+use Rattle.promises.proofs.Image.Words.{AllMet, Blocks, payload, plains, parts, lengths, AllFilled, partsIn, moved, laterBy, andThen}
 use Rattle.promises.proofs.Lemmas.ImageJudge.{accepted-met, met-accepted, opened-length, payload-length, payload-filled}
 
 -- ---- stops

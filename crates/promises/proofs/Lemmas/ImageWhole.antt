@@ -1,6 +1,6 @@
 -- A whole image: the writer's blocks are accepted one after another, and hold the payload. Assumes nothing.
 use mathlib.Core.Path.{_≡_, refl, sym, ap, ap₂, subst, _∙_}
-use mathlib.Core.Bool.{Bool, true, false, _&&_, _||_}
+use mathlib.Core.Bool.{Bool, true, false, _&&_, _||_, cond}
 use mathlib.Core.Logic.{⊎-elim}
 use mathlib.Core.List.{List, [], _∷_, _++_}
 use Prim.Native.Nat.{ℕ, zero, suc, _+_, _*_, _-_, _≤_, _<_}
@@ -10,7 +10,7 @@ use borrow.Author.Tests.{eqb-true, eqb-false, eq-eqb, lt-ltb, le-leb}
 use lib.Dec.{eqb, ltb, leb}
 use lib.ListN.{length, getD, take, drop, length-take, length-drop, take-append-drop}
 use lib.Seq.{drop-drop}
-use Rattle.octets.specs.Octets.{choose, Bytes, Octets}
+use Rattle.octets.specs.Octets.{Bytes, Octets}
 use Rattle.octets.specs.Blocks.{BlockCipher, Lawful}
 use Rattle.octets.proofs.Blocks.{take-bytes, drop-bytes, zeros-bytes, length-nil}
 use Rattle.modes_spec.specs.Pieces.{piece}
@@ -27,7 +27,7 @@ use Rattle.image_spec.specs.Sealed.{headFor, blockFor}
 use Rattle.image_spec.specs.Judge.{Keys, Rule, always, byRule, fresh, taken}
 use Rattle.image_reader_turn.specs.Turn.{Reading, later, readBlocks}
 use Rattle.image_reader_tally.specs.declared.Stop.the-variants.{End}
-use Rattle.promises.proofs.ImageTerms.{Proper, Right, Blocks, payload, parts, blocks, written, image}
+use Rattle.promises.proofs.Image.Words.{Proper, Right, Blocks, payload, parts, blocks, written, image}
 use Rattle.promises.proofs.Lemmas.ImageSealed.{filled-payload, sealed-size, sealed-bytes, sealed-opened, sealed-head}
 use Rattle.promises.proofs.Lemmas.ImageJudge.{sealed-accepted}
 use Rattle.promises.proofs.Lemmas.ImageTurn.{ran-accepted}
@@ -65,7 +65,7 @@ cases-fit number count len last middle = go (eqb (number + 1) count) refl
     some true q e = or-true (ltb 0 len)
     some false q e = rw (lt-ltb 0 len (last e .1 (eqb-false count 1 q))) refl
 
-    go : (t : Bool) → eqb (number + 1) count ≡ t → choose t (leb len 480 && (ltb 0 len || eqb count 1)) (eqb len 480) ≡ true
+    go : (t : Bool) → eqb (number + 1) count ≡ t → cond t (leb len 480 && (ltb 0 len || eqb count 1)) (eqb len 480) ≡ true
     go true q =
         let e = eqb-true (number + 1) count q in
         rw (le-leb len 480 (last e .0)) (some (eqb count 1) refl e)

@@ -1,6 +1,6 @@
 -- The key wrap's registers, and that each way undoes the other, step by step, pass by pass. Assumes nothing.
 use mathlib.Core.Path.{_≡_, refl, sym, ap, ap₂, subst, _∙_}
-use mathlib.Core.Bool.{Bool, true, false}
+use mathlib.Core.Bool.{Bool, true, false, cond}
 use mathlib.Core.List.{List, [], _∷_, _++_, append-assoc}
 use Prim.Native.Nat.{ℕ, zero, suc, _+_, _-_, _*_, _/_, _%_, _≤_, _<_}
 use native.Mathlib.Omega.{arith}
@@ -8,7 +8,7 @@ use borrow.Author.Tests.{eqb-true, eqb-false, eq-eqb, ltb-true, ltb-false, le-lt
 use lib.Dec.{eqb, ltb}
 use lib.ListN.{length, take, drop, replicate, length-append, length-drop, take-append-drop}
 use lib.Seq.{length-take-le, take-at, drop-at, take-take, drop-drop, take-append-add, drop-append-add}
-use Rattle.octets.specs.Octets.{choose, Bytes, Octets, same, over}
+use Rattle.octets.specs.Octets.{Bytes, Octets, same, over}
 use Rattle.octets.specs.Words.{byte, bytesOf}
 use Rattle.octets.specs.Blocks.{_⊕_, BlockCipher, Lawful}
 use Rattle.octets.proofs.Blocks.{⊕-undo, ⊕-octets, take-bytes, drop-bytes, append-bytes, take-octets}
@@ -23,7 +23,7 @@ use Rattle.wrap_answer.specs.Answers.{wrappedSizeFits, wrapNumber, sizeFits, wr
 use Rattle.wrap.specs.Calls.{wrapAnswer, wrapOutput, opening, unwrapAnswer, unwrapOutput}
 use Rattle.wrap_answer.specs.declared.WrapAnswer.{WrapAnswer}
 use Rattle.wrap_answer.specs.declared.WrapAnswer.the-variants.{WrapDone, WrapKey, WrapSize, WrapRoom, WrongInitial}
-use Rattle.promises.proofs.WrapTerms.{WrapFit, WrapSays, UnwrapFit, UnwrapSays}
+use Rattle.promises.proofs.Wrap.Words.{WrapFit, WrapSays, UnwrapFit, UnwrapSays}
 
 -- ---- lists of bytes
 
@@ -335,7 +335,7 @@ module _ (key : ℕ) (size : Bool) (result out : ℕ) (x : WrapAnswer) where
   unfolding wrapRuled
   ruled-says P k s r d = go (eqb key 0) size (ltb out result) refl refl refl
     where
-      go : (a b c : Bool) → eqb key 0 ≡ a → size ≡ b → ltb out result ≡ c → P (choose a (choose b (choose c WrapRoom x) WrapSize) WrapKey)
+      go : (a b c : Bool) → eqb key 0 ≡ a → size ≡ b → ltb out result ≡ c → P (cond a (cond b (cond c WrapRoom x) WrapSize) WrapKey)
       go false b c ea eb ec = k (eqb-false key 0 ea)
       go true false c ea eb ec = s (eqb-true key 0 ea) eb
       go true true true ea eb ec = r (eqb-true key 0 ea) eb (ltb-true out result ec)
@@ -355,7 +355,7 @@ pub opening-says : (c : BlockCipher) (dat : List ℕ) (P : WrapAnswer → Type 0
     → (register (unwrapped c dat) 0 ≡ initial → P WrapDone) → ((register (unwrapped c dat) 0 ≡ initial → ⊥) → P WrongInitial) → P (opening c dat)
 opening-says c dat P right wrong = go (same (register (unwrapped c dat) 0) initial) refl
   where
-    go : (t : Bool) → same (register (unwrapped c dat) 0) initial ≡ t → P (choose t WrapDone WrongInitial)
+    go : (t : Bool) → same (register (unwrapped c dat) 0) initial ≡ t → P (cond t WrapDone WrongInitial)
     go true e = right (same-true (register (unwrapped c dat) 0) initial e)
     go false e =
         wrong (λ q.
@@ -363,7 +363,7 @@ opening-says c dat P right wrong = go (same (register (unwrapped c dat) 0) initi
         let y : _≡_ {A = ℕ} 0 1 = cc in omega arith)
 
 pub opening-done : (c : BlockCipher) (dat : List ℕ) → register (unwrapped c dat) 0 ≡ initial → opening c dat ≡ WrapDone
-opening-done c dat q = ap (λ (x : List ℕ). choose (same x initial) WrapDone WrongInitial) q
+opening-done c dat q = ap (λ (x : List ℕ). cond (same x initial) WrapDone WrongInitial) q
 
 pub unwrap-says : (key dat out : List ℕ) → UnwrapSays key dat (length out) (unwrapAnswer key dat out)
 unfolding unwrapAnswer

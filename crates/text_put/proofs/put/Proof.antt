@@ -1,39 +1,42 @@
 -- A text is put where it fits. Assumes nothing.
 use Rattle.text_put.proofs.PlaceLaws.{placed-not, placed-yes}
-use mathlib.Core.Path.{_∙_}
+use mathlib.Core.Path.{sym, _∙_}
+use Prim.Native.Nat.{_+_, _≤_}
+use lib.ListN.{length}
+use borrow.Author.Tests.{leb-true, leb-false}
 use native.Mathlib.Omega.{arith}
 use borrow.Author.Needs.{needs}
 use Rattle.text_put.proofs.put.Statement.{statement}
 use Rattle.text_put.proofs.put.Tie as tie
 
-returns : tie.Need-returns
-returns c =
-    let a = c .before .before .before .args in
-    placed-not (a .text .now) (a .out .now) (a .at) (omega arith)
-
-sub-if2 : tie.Need-sub-if2
-sub-if2 c = search needs
-
-returns-2 : tie.Need-returns-2
-returns-2 c =
-    let a = c .before .before .before .before .args in
-    placed-not (a .text .now) (a .out .now) (a .at) (omega arith)
+has-room-requires : tie.Need-has-room-requires
+has-room-requires c κs = search needs
 
 copy-requires : tie.Need-copy-requires
 copy-requires c κs = search needs
 
 add-result : tie.Need-add-result
-add-result c = search needs
+add-result c =
+    let i = c .before .before .before .before in
+    let a = i .before .before .before .before .args in
+    let h : a .at + length (a .text .now) ≤ length (a .out .now) = leb-true _ _ (sym (i .before .has-room .ensures) ∙ i .if1 .taken) in
+    omega arith
 
 same-length : tie.Need-same-length
 same-length c = search needs
 
-returns-3 : tie.Need-returns-3
-returns-3 c =
-    let a = c .before .before .before .before .before .before .before .before .args in
-    let p = placed-yes (a .text .now) (a .out .now) (a .at) (omega arith) in
-    (p .0, c .before .before .copy .ensures ∙ p .1)
+returns : tie.Need-returns
+returns c =
+    let i = c .before .before .before .before in
+    let a = i .before .before .before .before .args in
+    let p = placed-yes (a .text .now) (a .out .now) (a .at) (leb-true _ _ (sym (i .before .has-room .ensures) ∙ i .if1 .taken)) in
+    (p .0, c .before .before .copy .ensures)
+
+returns-2 : tie.Need-returns-2
+returns-2 c =
+    let a = c .before .before .before .before .args in
+    placed-not (a .text .now) (a .out .now) (a .at) (leb-false _ _ (sym (c .before .has-room .ensures) ∙ c .if1 .left))
 
 pub put-spec : {M : Type 1} → statement M
 put-spec =
-    tie.close (tie.spec returns sub-if2 returns-2 copy-requires add-result same-length returns-3)
+    tie.close (tie.spec has-room-requires copy-requires add-result same-length returns returns-2)

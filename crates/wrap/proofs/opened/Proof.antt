@@ -2,7 +2,7 @@ use Rattle.octets_slice.proofs.Laws.{copied-fits}
 use lib.ListN.{length}
 use Prim.Native.Nat.{_-_}
 use mathlib.Core.Path.{_∙_, refl}
-use Rattle.aes_spec.specs.Equivalent.{oneWay}
+use Rattle.aes_spec.specs.Model.{oneWay}
 use Rattle.wrap.proofs.Building.{opened-by, opened-size}
 use native.Mathlib.Omega.{arith}
 use borrow.Author.Needs.{needs}

@@ -2,7 +2,7 @@ use Rattle.octets_slice.proofs.Laws.{copied-fits}
 use native.Mathlib.Omega.{arith}
 use mathlib.Core.Path.{_∙_}
 use borrow.Author.Tests.{not-true, not-false}
-use Rattle.aes_spec.specs.Equivalent.{oneWay}
+use Rattle.aes_spec.specs.Model.{oneWay}
 use Rattle.wrap.proofs.Building.{opened-wrong, opened-right}
 use borrow.Author.Needs.{needs}
 use Rattle.wrap.proofs.unwrap_into.Statement.{statement}

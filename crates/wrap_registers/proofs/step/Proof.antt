@@ -13,8 +13,8 @@ pair-requires c κs = search needs
 encrypt-block-requires : tie.Need-encrypt-block-requires
 encrypt-block-requires c κs = search needs
 
-counted-requires : tie.Need-counted-requires
-counted-requires c κs = search needs
+counter-added-requires : tie.Need-counter-added-requires
+counter-added-requires c κs = search needs
 
 put-back-requires : tie.Need-put-back-requires
 put-back-requires c κs = search needs
@@ -30,8 +30,8 @@ returns c =
     let a = s .args in
     let n : length (e .result) ≡ 16 = search needs in
     b .ensures
-    ∙ step-by (standard (a .words .now) (a .rounds)) (a .t) (a .i) (a .w .now) (e .result) (c .before .before .before .counted .result)
-    (e .ensures ∙ ap (encryptBlock sBox (a .words .now) (a .rounds)) (c .before .before .before .before .before .before .pair .ensures)) n (c .before .before .before .counted .ensures)
+    ∙ step-by (standard (a .words .now) (a .rounds)) (a .t) (a .i) (a .w .now) (e .result) (c .before .before .before .counter-added .result)
+    (e .ensures ∙ ap (encryptBlock sBox (a .words .now) (a .rounds)) (c .before .before .before .before .before .before .pair .ensures)) n (c .before .before .before .counter-added .ensures)
 
 pub step-spec : {M : Type 1} → statement M
 step-spec =
@@ -39,7 +39,7 @@ step-spec =
     (tie.spec
     pair-requires
     encrypt-block-requires
-    counted-requires
+    counter-added-requires
     put-back-requires
     same-length
     returns)

@@ -1,7 +1,7 @@
 use mathlib.Core.Path.{_≡_, refl, sym, ap, _∙_}
 use Prim.Native.Nat.{ℕ, _*_, _-_, _≤_}
 use lib.ListN.{length}
-use Rattle.aes_spec.specs.Equivalent.{oneWay}
+use Rattle.aes_spec.specs.Model.{oneWay}
 use Rattle.wrap_spec.specs.Wrap.{unpass}
 use Rattle.wrap_registers.proofs.Sizes.{product-fits}
 use Rattle.wrap_spec.proofs.Passing.{unpass-none, unpass-more}

@@ -3,7 +3,7 @@ use mathlib.Core.Bool.{true}
 use Prim.Native.Nat.{ℕ, _-_, _/_, _≤_}
 use lib.ListN.{length}
 use borrow.Author.Tests.{not-true, not-false}
-use Rattle.aes_spec.specs.Equivalent.{oneWay}
+use Rattle.aes_spec.specs.Model.{oneWay}
 use Rattle.wrap_spec.specs.Wrap.{unpasses}
 use Rattle.wrap_answer.specs.Answers.{wrappedSizeFits}
 use Rattle.wrap_answer.proofs.Sizes.{wrapped-size-parts}

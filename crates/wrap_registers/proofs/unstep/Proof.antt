@@ -1,5 +1,5 @@
 use mathlib.Core.Path.{_∙_}
-use Rattle.aes_spec.specs.Equivalent.{oneWay}
+use Rattle.aes_spec.specs.Model.{oneWay}
 use Rattle.wrap_spec.proofs.Passing.{unstep-by}
 use native.Mathlib.Omega.{arith}
 use borrow.Author.Needs.{needs}
@@ -9,8 +9,8 @@ use Rattle.wrap_registers.proofs.unstep.Tie as tie
 pair-requires : tie.Need-pair-requires
 pair-requires c κs = search needs
 
-counted-requires : tie.Need-counted-requires
-counted-requires c κs = search needs
+counter-added-requires : tie.Need-counter-added-requires
+counter-added-requires c κs = search needs
 
 decrypt-block-requires : tie.Need-decrypt-block-requires
 decrypt-block-requires c κs = search needs
@@ -25,7 +25,7 @@ returns : tie.Need-returns
 returns c =
     let b = c .before .before .put-back in
     let d = c .before .before .before .before .decrypt-block in
-    let x = c .before .before .before .before .before .counted in
+    let x = c .before .before .before .before .before .counter-added in
     let p = c .before .before .before .before .before .before .pair in
     let s = c .before .before .before .before .before .before .before .before .before in
     let a = s .args in
@@ -37,7 +37,7 @@ unstep-spec =
     tie.close
     (tie.spec
     pair-requires
-    counted-requires
+    counter-added-requires
     decrypt-block-requires
     put-back-requires
     same-length

@@ -8,7 +8,7 @@ use Rattle.octets.specs.Octets.{Octets}
 use Rattle.aes_sbox.specs.Sbox.{sBox}
 use Rattle.aes_spec.specs.State.{aes, addRoundKey, shiftRows, subBytes}
 use Rattle.aes_spec.specs.Cipher.{cipher}
-use Rattle.aes_state.specs.Columns.{blockOf}
+use Rattle.aes_state.specs.Model.{blockOf}
 use Rattle.aes_state.proofs.Loaded.{loaded}
 use borrow.Author.Needs.{needs}
 use Rattle.aes_rounds.proofs.loops.cipher.Statement.{statement}
@@ -20,8 +20,8 @@ forth-requires c κs = search needs
 last-bytes-requires : tie.Need-last-bytes-requires
 last-bytes-requires c κs = search needs
 
-load-requires : tie.Need-load-requires
-load-requires c κs = search needs
+columns-of-requires : tie.Need-columns-of-requires
+columns-of-requires c κs = search needs
 
 add-round-key-requires : tie.Need-add-round-key-requires
 add-round-key-requires c κs = search needs
@@ -36,10 +36,10 @@ returns c =
     let b = c .before .before .before .last-bytes in
     let o : Octets 16 (b .result) = record { size = search needs; bytes = λ k. (let h : Fits w8 (getD (b .result) k 0) = search needs in h .fits) } in
     c .as-columns .ensures ∙ c .before .add-round-key .ensures
-    ∙ ap (addRoundKey aes (a .words .now) (a .rounds)) (ap blockOf (c .before .before .load .ensures) ∙ loaded (b .result) o
+    ∙ ap (addRoundKey aes (a .words .now) (a .rounds)) (ap blockOf (c .before .before .columns-of .ensures) ∙ loaded (b .result) o
     ∙ b .ensures ∙ ap (λ (x : List ℕ). shiftRows aes (subBytes sBox x)) (c .before .before .before .before .forth .ensures))
 
 pub cipher-spec : {M : Type 1} → statement M
 cipher-spec =
     tie.close
-    (tie.spec forth-requires last-bytes-requires load-requires add-round-key-requires as-columns-requires returns)
+    (tie.spec forth-requires last-bytes-requires columns-of-requires add-round-key-requires as-columns-requires returns)

@@ -6,7 +6,7 @@ use Rattle.octets.specs.Octets.{xor}
 use Rattle.aes_sbox.specs.Sbox.{sBox}
 use Rattle.aes_mix.specs.Mixing.{mixedEntry}
 use Rattle.aes_model.proofs.Rows.{rowsOf, rows-none, rows-more}
-use Rattle.aes_rounds.specs.Diagonals.{from}
+use Rattle.aes_rounds.specs.Model.{from}
 use Rattle.aes_rounds.proofs.Columns.{column-law}
 use Rattle.aes_rounds.proofs.loops.forth_column.Statement.{statement}
 use Rattle.aes_rounds.proofs.loops.forth_column.Tie as tie

@@ -6,7 +6,7 @@ use Rattle.octets.specs.Octets.{xor}
 use Rattle.aes_rounds.proofs.Filled.{FilledRound, round-none, round-more, round-all}
 use Rattle.aes_mix.specs.Mixing.{mixColumn}
 use Rattle.aes_state.proofs.Keyed.{keyed, keyed-is}
-use Rattle.aes_rounds.specs.Diagonals.{subShifted}
+use Rattle.aes_rounds.specs.Model.{subShifted}
 use Rattle.aes_rounds.proofs.Rounds.{round-law}
 use Rattle.aes_rounds.proofs.loops.forth_columns.Statement.{statement}
 use Rattle.aes_rounds.proofs.loops.forth_columns.Tie as tie

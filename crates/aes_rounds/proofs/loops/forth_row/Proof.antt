@@ -1,6 +1,6 @@
 use Rattle.aes_sbox.specs.Sbox.{sBox}
 use Rattle.aes_mix.specs.Mixing.{mixedEntry}
-use Rattle.aes_lookup_forward.specs.Table.{forwardEntries}
+use Rattle.aes_lookup_forward.specs.Model.{forwardEntries}
 use Rattle.aes_model.proofs.Forward.{forward-rule, forward-lt}
 use Rattle.aes_model.proofs.Row.{row-law}
 use borrow.Author.Needs.{needs}

@@ -1,5 +1,5 @@
 use Rattle.aes_sbox.specs.Sbox.{sBox}
-use Rattle.aes_lookup_sbox.specs.Table.{sBoxBytes}
+use Rattle.aes_lookup_sbox.specs.Model.{sBoxBytes}
 use Rattle.aes_model.proofs.Forward.{sub-rule}
 use Rattle.aes_model.proofs.Row.{last-row-law}
 use borrow.Author.Needs.{needs}

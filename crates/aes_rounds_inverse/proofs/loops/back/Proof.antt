@@ -5,7 +5,7 @@ use borrow.Author.Needs.{needs}
 use Rattle.octets.specs.Words.{bytesOf}
 use Rattle.aes_sbox.specs.Sbox.{invSBox}
 use Rattle.aes_spec.specs.State.{aes}
-use Rattle.aes_spec.specs.Equivalent.{eqRounds}
+use Rattle.aes_spec.specs.Model.{eqRounds}
 use Rattle.aes_rounds_inverse.proofs.Rounds.{rounds-none, rounds-next}
 use Rattle.aes_rounds_inverse.proofs.loops.back.Statement.{statement}
 use Rattle.aes_rounds_inverse.proofs.loops.back.Tie as tie

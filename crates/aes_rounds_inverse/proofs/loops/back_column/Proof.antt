@@ -6,7 +6,7 @@ use Rattle.octets.specs.Octets.{xor}
 use Rattle.aes_sbox.specs.Sbox.{invSBox}
 use Rattle.aes_mix.specs.Mixing.{invMixedEntry}
 use Rattle.aes_model.proofs.Rows.{rowsOf, rows-none, rows-more}
-use Rattle.aes_rounds_inverse.specs.Diagonals.{backFrom}
+use Rattle.aes_rounds_inverse.specs.Model.{backFrom}
 use Rattle.aes_rounds_inverse.proofs.Columns.{column-law}
 use Rattle.aes_rounds_inverse.proofs.loops.back_column.Statement.{statement}
 use Rattle.aes_rounds_inverse.proofs.loops.back_column.Tie as tie

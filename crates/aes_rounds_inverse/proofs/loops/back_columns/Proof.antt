@@ -6,7 +6,7 @@ use Rattle.octets.specs.Octets.{xor}
 use Rattle.octets.proofs.Fill.{Filled, filled-none, filled-more, filled-all}
 use Rattle.aes_mix.specs.Mixing.{invMixColumn}
 use Rattle.aes_state.proofs.Keyed.{keyed, keyed-is}
-use Rattle.aes_rounds_inverse.specs.Diagonals.{invSubShifted}
+use Rattle.aes_rounds_inverse.specs.Model.{invSubShifted}
 use Rattle.aes_rounds_inverse.proofs.Rounds.{round-law}
 use Rattle.aes_rounds_inverse.proofs.loops.back_columns.Statement.{statement}
 use Rattle.aes_rounds_inverse.proofs.loops.back_columns.Tie as tie

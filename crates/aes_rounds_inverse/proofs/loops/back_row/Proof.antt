@@ -1,6 +1,6 @@
 use Rattle.aes_sbox.specs.Sbox.{invSBox}
 use Rattle.aes_mix.specs.Mixing.{invMixedEntry}
-use Rattle.aes_lookup_inverse.specs.Table.{inverseEntries}
+use Rattle.aes_lookup_inverse.specs.Model.{inverseEntries}
 use Rattle.aes_model.proofs.Back.{inverse-rule, inverse-lt}
 use Rattle.aes_model.proofs.Row.{row-law}
 use borrow.Author.Needs.{needs}

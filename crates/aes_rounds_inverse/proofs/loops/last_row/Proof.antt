@@ -1,5 +1,5 @@
 use Rattle.aes_sbox.specs.Sbox.{invSBox}
-use Rattle.aes_lookup_inv_sbox.specs.Table.{invSBoxBytes}
+use Rattle.aes_lookup_inv_sbox.specs.Model.{invSBoxBytes}
 use Rattle.aes_model.proofs.Back.{inv-sub-rule}
 use Rattle.aes_model.proofs.Row.{last-row-law}
 use borrow.Author.Needs.{needs}

@@ -12,8 +12,8 @@ use Rattle.cmac_run.proofs.Run.fed.Tie as tie
 room-after-requires : tie.Need-room-after-requires
 room-after-requires c κs = search needs
 
-filled-requires : tie.Need-filled-requires
-filled-requires c κs = search needs
+piece-filled-requires : tie.Need-piece-filled-requires
+piece-filled-requires c κs = search needs
 
 sub-t12 : tie.Need-sub-t12
 sub-t12 c = search needs
@@ -26,7 +26,7 @@ returns c =
     let s = c .before .before .before .before .before .before in
     let x = s .args .self in
     let size : length (x .held) ≡ 16 = search needs in
-    rw (c .before .filled .ensures, c .before .before .room-after .ensures)
+    rw (c .before .piece-filled .ensures, c .before .before .room-after .ensures)
     (fed-room (x .held) size (standard (now (s .args .words)) (s .args .rounds)) (x .chain) (x .count) (now (s .args .part)) (search needs))
 
 xor-requires : tie.Need-xor-requires
@@ -52,7 +52,7 @@ returns-2 c =
     let s = c .before .before .before .before .before .before .before .before .before .before in
     let x = s .args .self in
     let size : length (x .held) ≡ 16 = search needs in
-    c .run-from .ensures ∙ rw (c .before .before .encrypt-block .ensures, c .before .before .before .xor .ensures, c .before .before .before .before .before .filled .ensures, c .before .before .before .before .before .before .room-after .ensures, to-end (now (s .args .part)) (16 - x .count))
+    c .run-from .ensures ∙ rw (c .before .before .encrypt-block .ensures, c .before .before .before .xor .ensures, c .before .before .before .before .before .piece-filled .ensures, c .before .before .before .before .before .before .room-after .ensures, to-end (now (s .args .part)) (16 - x .count))
     (fed-over (x .held) size (standard (now (s .args .words)) (s .args .rounds)) (x .chain) (x .count) (now (s .args .part)) (search needs))
 
 pub fed-spec : {M : Type 1} → statement M
@@ -60,7 +60,7 @@ fed-spec =
     tie.close
     (tie.spec
     room-after-requires
-    filled-requires
+    piece-filled-requires
     sub-t12
     add-t14
     returns

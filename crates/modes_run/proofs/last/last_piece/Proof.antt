@@ -1,7 +1,7 @@
 use Prim.Native.Nat.{_≤_, _<_}
 use denote.Ref.{now}
 use lib.ListN.{length}
-use Rattle.aes_spec.specs.Equivalent.{oneWay}
+use Rattle.aes_spec.specs.Model.{oneWay}
 use Rattle.modes_spec.specs.Modes.{machine}
 use Rattle.modes_spec.specs.declared.Operation.the-variants.{Ofb}
 use Rattle.modes_run.proofs.Runs.{rest-none, rest-one}

@@ -1,0 +1,4 @@
+pub mod Calls
+pub mod Field
+pub mod Cipher
+pub mod Keys
