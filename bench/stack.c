@@ -192,6 +192,20 @@ static void on_unwrap(void)
     }
 }
 
+static const size_t places[] = {0, 1, TURN - 1, TURN, SIZE_MAX};
+enum { PLACES = sizeof places / sizeof places[0] };
+
+#define ON_VIEW(name)                                                                  \
+    static void on_##name(void)                                                        \
+    {                                                                                  \
+        for (int i = 0; i < PLACES; i++) {                                             \
+            dock_view_answer a = ON(dock_##name)(sizeof image, places[i]);             \
+            seen(a.number == (places[i] < TURN ? 0 : DOCK_NOT_BELOW_COUNT));           \
+        }                                                                              \
+    }
+ON_VIEW(view_block)
+ON_VIEW(view_check)
+
 // What a caller pushes before the call: structs by value of more than 16 bytes, and whatever comes after six numbers or pointers.
 // A result of more than 16 bytes goes where the caller has room for it.
 static const struct {
@@ -220,6 +234,8 @@ static const struct {
     {"dock_read_complete", on_read_complete, sizeof(dock_reader), 0},
     {"dock_wrap", on_wrap, 0, 0},
     {"dock_unwrap", on_unwrap, 0, 0},
+    {"dock_view_block", on_view_block, 0, sizeof(dock_view_answer)},
+    {"dock_view_check", on_view_check, 0, sizeof(dock_view_answer)},
 };
 
 // Two colours, since a byte that a call happens to write in the first shows in the second.

@@ -1,4 +1,4 @@
-// The library's calls for C and C++: AES, its modes, the check (CMAC), release images and the key wrap.
+// The library's calls for C and C++: AES, its modes, the check (CMAC), release images and views of them, and the key wrap.
 //
 // Building and linking. `rt staticlib dock` proves the library and writes target/staticlib/libdock.a, for x86-64 Linux. It has every
 // call below, and uses memcpy and memset and nothing else: no heap, no file, no memory of its own that is written. So calls may run in
@@ -57,7 +57,8 @@ enum {
     DOCK_AFTER_LAST = 16,         // the block comes after the last
     DOCK_NOT_COMPLETE = 17,       // the last block has not been accepted
     DOCK_WRAP_LENGTH = 18,        // the data has a wrong length: 16 to 64 bytes are wrapped, 24 to 72 unwrapped, each a multiple of 8
-    DOCK_INITIAL_VALUE = 19       // the data was not wrapped under this key
+    DOCK_INITIAL_VALUE = 19,      // the data was not wrapped under this key
+    DOCK_NOT_BELOW_COUNT = 20     // a place or number is not below the count
 };
 
 // Sizes of release images, in bytes, and the most blocks that a turn may be asked for and an image may have.
@@ -245,6 +246,25 @@ dock_turn_answer dock_read_turn(dock_reader reader, const uint8_t *blocks, size_
 // 0 once the last block has been accepted, where next is not 0 and is the count, and 17 before. Only this 0 says that the release is
 // here: not the size of a file, and not a turn without a refusal.
 uint32_t dock_read_complete(dock_reader reader);
+
+// ---- Looking into a stored image
+
+// What a view of an image shows, by numbers alone: no call is lent the image. made: 0, or 6 where the image is not whole blocks of 512,
+// and the view then holds an empty image. blocks: the number of blocks that it holds, 0 after 6. number: 0, or 20 where the place is not
+// below the number of blocks. offset and length: the part of the image that is shown, which lies in it; after 20 both are 0.
+typedef struct {
+    uint32_t made;
+    uint32_t number;
+    size_t blocks;
+    size_t offset;
+    size_t length;
+} dock_view_answer;
+
+// Block `place` (from 0) of an image of this length, and its check, which is the last 16 bytes of the block: with the image at `image`,
+// `image + answer.offset` has answer.length bytes of it. Nothing is judged, and any numbers have an answer. An empty image has no block
+// and is no refusal.
+dock_view_answer dock_view_block(size_t image_length, size_t place);
+dock_view_answer dock_view_check(size_t image_length, size_t place);
 
 // ---- The key wrap of RFC 3394
 

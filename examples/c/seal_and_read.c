@@ -72,6 +72,7 @@ static const char *in_words(uint32_t number) {
     case DOCK_NOT_COMPLETE: return "the last block has not been accepted";
     case DOCK_WRAP_LENGTH: return "the data has a wrong length";
     case DOCK_INITIAL_VALUE: return "the data was not wrapped under this key";
+    case DOCK_NOT_BELOW_COUNT: return "a place or number is not below the count";
     default: return "a number that this program does not know";
     }
 }

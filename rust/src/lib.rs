@@ -1,4 +1,4 @@
-//! AES, its modes, the check (CMAC), release images and the key wrap: safe calls over the C exports of a library in which every
+//! AES, its modes, the check (CMAC), release images and views of them, and the key wrap: safe calls over the C exports of a library in which every
 //! function is proved.
 //!
 //! Every call ends, and every input has one answer: a result, or a [`Refusal`] with the number that `docs/REFUSALS.md` explains.
@@ -49,6 +49,7 @@ mod image;
 mod modes;
 mod refusal;
 pub mod sys;
+mod view;
 mod wipe;
 mod wrap;
 
@@ -59,4 +60,5 @@ pub use modes::{
     cbc_decrypt, cbc_encrypt, cfb_decrypt, cfb_encrypt, ecb_decrypt, ecb_encrypt, ofb,
 };
 pub use refusal::Refusal;
+pub use view::{Blocks, View};
 pub use wrap::{unwrap, wrap};

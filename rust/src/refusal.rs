@@ -44,6 +44,8 @@ pub enum Refusal {
     WrapLength,
     /// 19: the data is no wrapping under this key.
     InitialValue,
+    /// 20: a place or number is not below the count.
+    NotBelowCount,
     /// A number that this edition of the wrapper has no name for.
     Other(u32),
 }
@@ -51,7 +53,7 @@ pub enum Refusal {
 use Refusal::*;
 
 /// Each with its number and what it says. No call answers 11.
-const NAMED: [(u32, Refusal, &str); 18] = [
+const NAMED: [(u32, Refusal, &str); 19] = [
     (1, KeyLength, "a key is not 16, 24 or 32 bytes"),
     (2, IvLength, "the IV has a wrong length for the mode"),
     (3, InputLength, "the input is not a multiple of 16 bytes"),
@@ -82,6 +84,11 @@ const NAMED: [(u32, Refusal, &str); 18] = [
     (17, NotComplete, "the last block has not been accepted"),
     (18, WrapLength, "the data has a wrong length"),
     (19, InitialValue, "the data was not wrapped under this key"),
+    (
+        20,
+        NotBelowCount,
+        "a place or number is not below the count",
+    ),
 ];
 
 impl Refusal {

@@ -101,6 +101,16 @@ pub struct TurnAnswer {
     pub reader: Reader,
 }
 
+#[repr(C)]
+#[derive(Clone, Copy)]
+pub struct ViewAnswer {
+    pub made: u32,
+    pub number: u32,
+    pub blocks: usize,
+    pub offset: usize,
+    pub length: usize,
+}
+
 impl Record {
     pub const ZERO: Record = Record {
         words: [0; 60],
@@ -213,6 +223,9 @@ extern "C" {
         output: *mut u8, output_length: usize,
     ) -> TurnAnswer;
     pub fn dock_read_complete(reader: Reader) -> u32;
+
+    pub fn dock_view_block(image_length: usize, place: usize) -> ViewAnswer;
+    pub fn dock_view_check(image_length: usize, place: usize) -> ViewAnswer;
 
     pub fn dock_wrap(
         key: *const u8, key_length: usize, data: *const u8, data_length: usize,

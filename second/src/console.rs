@@ -25,6 +25,7 @@ use crate::hex;
 use crate::image::{self, Reader, Turn, Which};
 use crate::modes::{self, Operation};
 use crate::refusal::{number_of, Refusal};
+use crate::view::View;
 use crate::wrap;
 use std::io::{self, BufRead, Read, Write};
 
@@ -115,6 +116,8 @@ impl Console {
             (b"read-complete", []) => Some(number_of(&self.reader.complete()).to_string()),
             (b"wrap", [key, data, output]) => wrap_call(wrap::wrap, key, data, output),
             (b"unwrap", [key, data, output]) => wrap_call(wrap::unwrap, key, data, output),
+            (b"view-block", [image, place]) => view_call(image, place, |view, at| view.block(at)),
+            (b"view-check", [image, place]) => view_call(image, place, |view, at| view.check(at)),
             (name, [key, iv, input, output]) => mode_call(name, key, iv, input, output),
             _ => None,
         }
@@ -241,6 +244,24 @@ fn wrap_call(call: WrapCall, key: &[u8], data: &[u8], output: &[u8]) -> Option<S
     let mut output = hex::read(output)?;
     let result = call(&key, &data, &mut output);
     Some(format!("{} {}", number_of(&result), hex::shown(&output)))
+}
+
+fn view_call(
+    image: &[u8],
+    place: &[u8],
+    call: impl for<'a> Fn(View<'a>, u64) -> Result<&'a [u8], Refusal>,
+) -> Option<String> {
+    let (image, place) = (hex::read(image)?, number(place)?);
+    let made = View::of(&image);
+    let view = made.unwrap_or_default();
+    let shown = call(view, place);
+    Some(format!(
+        "{} {} {} {}",
+        number_of(&made),
+        view.blocks(),
+        number_of(&shown),
+        hex::shown(shown.unwrap_or_default())
+    ))
 }
 
 /// Everything that a turn answers before its output.

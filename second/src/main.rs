@@ -1,4 +1,4 @@
-//! An independent second program for the cipher, its modes, the check, release images and the key wrap.
+//! An independent second program for the cipher, its modes, the check, release images and views of them, and the key wrap.
 
 mod aes;
 mod cmac;
@@ -10,6 +10,7 @@ mod listing;
 mod modes;
 mod random;
 mod refusal;
+mod view;
 mod wrap;
 
 use std::env;

@@ -6,6 +6,7 @@ mod plan;
 mod rng;
 mod spoil;
 pub mod turns;
+mod views;
 mod wraps;
 
 use crate::console::{Console, BAD};
@@ -207,6 +208,26 @@ mod tests {
                 assert!(count(number) > 50, "{call}: {number}");
             }
             assert!(count("0") > 800, "{call}: {} of 2000", count("0"));
+        }
+    }
+
+    #[test]
+    fn most_views_show_a_block_and_every_refusal_of_them_is_met() {
+        for call in ["view-block", "view-check"] {
+            let mut console = Console::default();
+            let lines = drawn(7, Some(call));
+            let answers: Vec<String> = lines.iter().map(|line| console.answer(line)).collect();
+            let count = |made: &str, shown: &str| {
+                let given = |answer: &&String| {
+                    let words: Vec<&str> = answer.split(' ').collect();
+                    words.len() == 4 && words[0] == made && words[2] == shown
+                };
+                answers.iter().filter(given).count()
+            };
+            assert!(count("0", "0") > 800, "{call}: {}", count("0", "0"));
+            assert!(count("0", "20") > 200, "{call}");
+            assert!(count("6", "20") > 50, "{call}");
+            assert_eq!(count("6", "0"), 0, "{call}");
         }
     }
 

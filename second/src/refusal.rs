@@ -20,6 +20,7 @@ pub enum Refusal {
     NotComplete = 17,
     WrapLength = 18,
     InitialValue = 19,
+    NotBelowCount = 20,
 }
 
 impl Refusal {

@@ -27,6 +27,7 @@ typedef uint32_t mode_call(const uint8_t *, size_t, const uint8_t *, size_t, con
 typedef dock_chain_answer chain_call(const uint8_t *, size_t, const uint8_t *, size_t, const uint8_t *, size_t, uint8_t *, size_t);
 typedef uint32_t wrap_call(const uint8_t *, size_t, const uint8_t *, size_t, uint8_t *, size_t);
 typedef dock_block_answer block_call(const uint8_t *, size_t, dock_block);
+typedef dock_view_answer view_call(size_t, size_t);
 
 typedef struct form form;
 
@@ -39,6 +40,7 @@ struct form {
         chain_call *chain;
         wrap_call *wrap;
         block_call *block;
+        view_call *view;
     } call;  // where one function answers for several calls
 };
 
@@ -259,6 +261,20 @@ static bool wrap(const form *f, const word *w) {
     return true;
 }
 
+static bool view(const form *f, const word *w) {
+    uint64_t place;
+    const lent *image = input(w[0]);
+    if (!image || !word_number(w[1], UINT64_MAX, &place)) return false;
+    dock_view_answer answer = f->call.view(image->length, place);
+    expect(answer.offset <= image->length && answer.length <= image->length - answer.offset, "what is shown lies in the image");
+    expect(answer.number == 0 || (answer.offset == 0 && answer.length == 0), "nothing is shown of a place that is refused");
+    put_number(answer.made);
+    put_number(answer.blocks);
+    put_number(answer.number);
+    put_bytes(image->bytes + answer.offset, answer.length);
+    return true;
+}
+
 static const form forms[] = {
     {"product", 2, product, {NULL}},
     {"schedule", 1, schedule, {NULL}},
@@ -281,6 +297,8 @@ static const form forms[] = {
     {"read-complete", 0, read_complete, {NULL}},
     {"wrap", 3, wrap, {.wrap = dock_wrap}},
     {"unwrap", 3, wrap, {.wrap = dock_unwrap}},
+    {"view-block", 2, view, {.view = dock_view_block}},
+    {"view-check", 2, view, {.view = dock_view_check}},
 };
 
 static const form *form_named(word name) {

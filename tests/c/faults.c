@@ -1,4 +1,4 @@
-// Faults planted on purpose: a driver linked with these in place of eight calls must stop, or answer otherwise than the second program.
+// Faults planted on purpose: a driver linked with these in place of ten calls must stop, or answer otherwise than the second program.
 // The linker puts __wrap_CALL in the place of CALL (--wrap) and leaves the library's own as __real_CALL; FAULT in the environment
 // says which fault is made, and without it there is none.
 #include <stdlib.h>
@@ -22,6 +22,8 @@ dock_block_answer __real_dock_decrypt(const uint8_t *, size_t, dock_block);
 dock_block_answer __real_dock_encrypt(const uint8_t *, size_t, dock_block);
 void __real_dock_check_feed(dock_record *, const uint8_t *, size_t);
 dock_turn_answer __real_dock_read_turn(dock_reader, const uint8_t *, size_t, size_t, uint8_t *, size_t);
+dock_view_answer __real_dock_view_block(size_t, size_t);
+dock_view_answer __real_dock_view_check(size_t, size_t);
 
 // 1: the byte behind the output.
 // 9: the chaining value handed on after a short last piece.
@@ -81,5 +83,19 @@ dock_turn_answer __wrap_dock_read_turn(dock_reader reader, const uint8_t *blocks
     dock_turn_answer answer = __real_dock_read_turn(reader, blocks, blocks_length, asked, output, output_length);
     size_t past = answer.accepted * DOCK_IMAGE_PAYLOAD;
     if (made(8) && past < output_length) flip(output + past);
+    return answer;
+}
+
+// 10: the block at place 0, whatever place is asked for.
+dock_view_answer __wrap_dock_view_block(size_t image_length, size_t place) {
+    dock_view_answer answer = __real_dock_view_block(image_length, place);
+    if (made(10)) answer.offset = 0;
+    return answer;
+}
+
+// 11: the 16 bytes before the check.
+dock_view_answer __wrap_dock_view_check(size_t image_length, size_t place) {
+    dock_view_answer answer = __real_dock_view_check(image_length, place);
+    if (made(11) && answer.number == DOCK_DONE) answer.offset -= 16;
     return answer;
 }

@@ -1,4 +1,5 @@
-// Records and readers that no start made, which no line of a console reaches: each call ends, and answers as the rules say.
+// Records and readers that no start made, and images longer than memory, which no line of a console reaches: each call ends, and answers
+// as the rules say.
 #include <stdbool.h>
 #include <stdio.h>
 #include <stdlib.h>
@@ -248,6 +249,24 @@ static void one_drawn(void) {
     one_case(&c);
 }
 
+// Any length of an image, up to all that a number can say, and places around its last block: the place is compared before it is
+// multiplied.
+static void one_view(void) {
+    size_t length = drawn() % 2 ? drawn() / 512 * 512 : some_number() * 512;
+    if (drawn() % 8 == 0) length = SIZE_MAX - drawn() % 600;
+    size_t blocks = length % 512 == 0 ? length / 512 : 0;
+    size_t places[] = {0, blocks / 2, blocks - 1, blocks, blocks + 1, drawn(), SIZE_MAX, SIZE_MAX / 512 + 1};
+    for (size_t i = 0; i < sizeof places / sizeof *places; i++) {
+        size_t place = places[i];
+        bool there = place < blocks;
+        dock_view_answer block = dock_view_block(length, place), check = dock_view_check(length, place);
+        expect(block.made == (length % 512 == 0 ? 0 : 6) && block.blocks == blocks && block.number == (there ? 0 : 20), "the numbers of a view");
+        expect(check.made == block.made && check.blocks == block.blocks && check.number == block.number, "a block's view and its check's");
+        expect(block.offset == (there ? place * 512 : 0) && block.length == (there ? 512 : 0), "where a block lies");
+        expect(check.offset == (there ? place * 512 + 496 : 0) && check.length == (there ? 16 : 0), "where a check lies");
+    }
+}
+
 int main(void) {
     uint8_t block[512];
     seal(&(header){0, 1, 2, 480, 0, {0}}, block);
@@ -255,6 +274,7 @@ int main(void) {
     for (int i = 0; i < TRIALS; i++) one_reader(block);
     for (size_t i = 0; i < sizeof cases / sizeof *cases; i++) one_by_hand(&cases[i]);
     for (int i = 0; i < TRIALS; i++) one_drawn();
+    for (int i = 0; i < TRIALS; i++) one_view();
     printf("states: %ld comparisons hold\n", compared);
     return 0;
 }

@@ -27,15 +27,15 @@ pub struct Taken {
 }
 
 // The words of a line that has the form of a row of the table of calls, or `ok` false.
-pub fn take(line: &[u8], row: &[u8; 26], ins: &mut [u8], outs: &mut [u8]) -> Args {
+pub fn take(line: &[u8], row: &[u8; 30], ins: &mut [u8], outs: &mut [u8]) -> Args {
     let mut ok = text_words::count(line)
-        == text_words::find(octets_slice::part(row, 16, 26), 0, 32);
+        == text_words::find(octets_slice::part(row, 20, 30), 0, 32);
     let mut ends = [0usize; 10];
     let mut numbers = [0u64; 10];
     let mut at: usize = 0;
     let mut k: usize = 1;
     while k < 10 {
-        let t = read_word(row[16 + k], text_words::word(line, k), ins, outs, at);
+        let t = read_word(row[20 + k], text_words::word(line, k), ins, outs, at);
         if !t.ok {
             ok = false;
         }

@@ -5,37 +5,41 @@ use crate::checked;
 use crate::held::Held;
 use crate::imaged;
 use crate::moded;
+use crate::viewed;
 use crate::wrapped;
 use args::Args;
 use basic::BasicCall;
 use checked::CheckCall;
 use imaged::ImageCall;
 use modes_spec::Operation;
+use viewed::ViewCall;
 use wrapped::WrapCall;
 
-// A row has the name of a call, and from its place 16 on the form of its line: the letters are in args.rt.
-const ROWS: [[u8; 26]; 21] = [
-    *b"product         .11       ",
-    *b"schedule        .x        ",
-    *b"encrypt         .xb       ",
-    *b"decrypt         .xb       ",
-    *b"ecb-encrypt     .xxxo     ",
-    *b"ecb-decrypt     .xxxo     ",
-    *b"cbc-encrypt     .xxxo     ",
-    *b"cbc-decrypt     .xxxo     ",
-    *b"cfb-encrypt     .xxxo     ",
-    *b"cfb-decrypt     .xxxo     ",
-    *b"ofb             .xxxo     ",
-    *b"check           .xx       ",
-    *b"check-start     .x        ",
-    *b"check-feed      .x        ",
-    *b"check-close     .         ",
-    *b"write           .xxnnnnbxo",
-    *b"read-start      .xx       ",
-    *b"read-turn       .wxo      ",
-    *b"read-complete   .         ",
-    *b"wrap            .xxo      ",
-    *b"unwrap          .xxo      ",
+// A row has the name of a call, and from its place 20 on the form of its line: the letters are in args.rt.
+const ROWS: [[u8; 30]; 23] = [
+    *b"product             .11       ",
+    *b"schedule            .x        ",
+    *b"encrypt             .xb       ",
+    *b"decrypt             .xb       ",
+    *b"ecb-encrypt         .xxxo     ",
+    *b"ecb-decrypt         .xxxo     ",
+    *b"cbc-encrypt         .xxxo     ",
+    *b"cbc-decrypt         .xxxo     ",
+    *b"cfb-encrypt         .xxxo     ",
+    *b"cfb-decrypt         .xxxo     ",
+    *b"ofb                 .xxxo     ",
+    *b"check               .xx       ",
+    *b"check-start         .x        ",
+    *b"check-feed          .x        ",
+    *b"check-close         .         ",
+    *b"write               .xxnnnnbxo",
+    *b"read-start          .xx       ",
+    *b"read-turn           .wxo      ",
+    *b"read-complete       .         ",
+    *b"wrap                .xxo      ",
+    *b"unwrap              .xxo      ",
+    *b"view-block          .xw       ",
+    *b"view-check          .xw       ",
 ];
 
 pub enum Call {
@@ -45,6 +49,7 @@ pub enum Call {
     Checked(CheckCall),
     Imaged(ImageCall),
     Wrapped(WrapCall),
+    Viewed(ViewCall),
     Unknown,
 }
 
@@ -72,19 +77,21 @@ fn call_at(k: usize) -> Call {
         18 => Call::Imaged(ImageCall::Complete),
         19 => Call::Wrapped(WrapCall::Wrap),
         20 => Call::Wrapped(WrapCall::Unwrap),
+        21 => Call::Viewed(ViewCall::ViewBlock),
+        22 => Call::Viewed(ViewCall::ViewCheck),
         _ => Call::Unknown,
     }
 }
 
 // No line has the form of a row past the last, since that asks for no word at all.
-fn row(k: usize) -> [u8; 26] {
-    if k < 21 { ROWS[k] } else { [32; 26] }
+fn row(k: usize) -> [u8; 30] {
+    if k < 23 { ROWS[k] } else { [32; 30] }
 }
 
-// The row that has a word for its name, or 21.
+// The row that has a word for its name, or 23.
 fn row_of(w: &[u8]) -> usize {
     let mut k: usize = 0;
-    while k < 21 {
+    while k < 23 {
         if has_name(row(k), w) {
             return k;
         }
@@ -93,7 +100,7 @@ fn row_of(w: &[u8]) -> usize {
     k
 }
 
-fn has_name(row: [u8; 26], w: &[u8]) -> bool {
+fn has_name(row: [u8; 30], w: &[u8]) -> bool {
     check::same(
         w,
         octets_slice::part(&row, 0, text_words::find(&row, 0, 32)),
@@ -119,6 +126,7 @@ fn made(call: Call, held: Held, ins: &[u8], a: Args, outs: &mut [u8], text: &mut
         Call::Checked(c) => checked::answer(c, held, ins, a, text, at),
         Call::Imaged(c) => imaged::answer(c, held, ins, a, outs, text, at),
         Call::Wrapped(c) => held.at(wrapped::answer(c, ins, a, outs, text, at)),
+        Call::Viewed(c) => held.at(viewed::answer(c, ins, a, text, at)),
         Call::Unknown => held,
     }
 }

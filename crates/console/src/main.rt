@@ -9,6 +9,7 @@ mod moded;
 mod print;
 mod stopped;
 mod streams;
+mod viewed;
 mod wrapped;
 
 use held::Held;

@@ -26,11 +26,16 @@ pub fn six(numbers: [u64; 6], text: &mut [u8], at: usize) -> usize {
     p
 }
 
+// A number with a space behind it.
+pub fn spaced(n: u64, text: &mut [u8], at: usize) -> usize {
+    let p = number(n, text, at);
+    text_put::put(b" ", text, p)
+}
+
 // `N BYTES`
 pub fn number_bytes(n: u64, bytes: &[u8], text: &mut [u8], at: usize) -> usize {
-    let p = number(n, text, at);
-    let q = text_put::put(b" ", text, p);
-    text_hex::put_hex(bytes, text, q)
+    let p = spaced(n, text, at);
+    text_hex::put_hex(bytes, text, p)
 }
 
 // A word as eight hex digits, the high byte first.

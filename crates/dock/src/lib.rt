@@ -6,6 +6,7 @@ use cmac::Record;
 use dock_turn::TurnAnswer;
 use dock_turn::turn_answer;
 use image_reader::Reader;
+use image_view::ViewAnswer;
 use image_writer_answer::Numbers;
 use modes_spec::Operation;
 ghost use mathlib.Core.Path.{_≡_};
@@ -21,6 +22,7 @@ ghost use Rattle.image_writer_answer.specs.Answers.{writeNumber};
 ghost use Rattle.image_writer.specs.Calls.{writeAnswer, writeOutput};
 ghost use Rattle.image_reader.specs.Calls as readers;
 ghost use Rattle.image_reader.specs.Calls.{turnOf};
+ghost use Rattle.image_view.specs.Views as views;
 ghost use Rattle.wrap_answer.specs.Answers.{wrapNumber};
 ghost use Rattle.wrap.specs.Calls.{wrapAnswer, wrapOutput, unwrapAnswer, unwrapOutput};
 ghost use Rattle.dock.specs.Answers.{scheduleAnswer, blockAnswer, chainAnswer, modeApplied, afterMode, checkAnswer, startAnswer, closeAnswer, readStartAnswer, numbers};
@@ -287,6 +289,21 @@ pub extern "C" fn dock_read_complete(reader: Reader) -> u32
 {
     let answer = image_reader::read_complete(reader);
     answer.number()
+}
+
+// By numbers alone: the image stays with the caller, who has it at the address that the answer counts from.
+#[no_mangle]
+pub extern "C" fn dock_view_block(len: usize, place: usize) -> ViewAnswer
+    ensures { λ r. ⌜ r ≡ views.blockAnswer len place ⌝ }
+{
+    image_view::block_answer(len, place)
+}
+
+#[no_mangle]
+pub extern "C" fn dock_view_check(len: usize, place: usize) -> ViewAnswer
+    ensures { λ r. ⌜ r ≡ views.checkAnswer len place ⌝ }
+{
+    image_view::check_answer(len, place)
 }
 
 #[no_mangle]

@@ -6,3 +6,4 @@ pub mod Exactly
 pub mod Damage
 pub mod OldRules
 pub mod Cut
+pub mod View

@@ -50,6 +50,8 @@ use Rattle.wrap_answer.specs.Answers.{wrapNumber}
 use Rattle.wrap_answer.specs.declared.WrapAnswer.{WrapAnswer}
 use Rattle.wrap_answer.specs.declared.WrapAnswer.the-variants.{WrapDone, WrapKey, WrapSize, WrapRoom, WrongInitial}
 use Rattle.wrap_answer.proofs.Pins.{wrap-numbers}
+use Rattle.image_view.specs.Views.{madeNumber, heldLength, shownNumber, answerOf}
+use Rattle.image_view.proofs.Pins as views
 use Rattle.dock_turn.specs.Answers.{toldOf}
 use Rattle.promises.proofs.Modes.{not-pieces-not-ofb}
 use Rattle.promises.proofs.Wrap.Calls.{wrap-as-told}
@@ -70,6 +72,10 @@ use Rattle.image_block_judge.proofs.judge.Reads as judge
 use Rattle.image_reader.proofs.read_complete.Reads as read-complete
 use Rattle.wrap.proofs.wrap.Reads as wrap
 use Rattle.wrap.proofs.unwrap.Reads as unwrap
+use Rattle.image_view.proofs.made_number.Reads as made-number
+use Rattle.image_view.proofs.shown_number.Reads as shown-number
+use Rattle.image_view.proofs.block_answer.Reads as block-answer
+use Rattle.image_view.proofs.check_answer.Reads as check-answer
 use Rattle.dock.proofs.dock_schedule.Reads as dock-schedule
 use Rattle.dock.proofs.dock_encrypt.Reads as dock-encrypt
 use Rattle.dock.proofs.dock_decrypt.Reads as dock-decrypt
@@ -88,6 +94,8 @@ use Rattle.dock.proofs.dock_read_turn.Reads as dock-read-turn
 use Rattle.dock.proofs.dock_read_complete.Reads as dock-read-complete
 use Rattle.dock.proofs.dock_wrap.Reads as dock-wrap
 use Rattle.dock.proofs.dock_unwrap.Reads as dock-unwrap
+use Rattle.dock.proofs.dock_view_block.Reads as dock-view-block
+use Rattle.dock.proofs.dock_view_check.Reads as dock-view-check
 
 -- ---- the modes
 
@@ -164,7 +172,7 @@ the-values = reasons.reason-values
 
 -- the rows of 'Which comes first', and their numbers: the key schedule, one block, the whole check, the starts of a running check and of a
 -- reader (keyed); ECB, CBC and CFB (pieces); OFB; the writer; a turn, as a whole and then for each block; one block; completion; wrapping and
--- unwrapping
+-- unwrapping; making a view, and showing a block or its check
 pub data Row : Type 0 where
   keyed : Row
   pieces : Row
@@ -175,6 +183,8 @@ pub data Row : Type 0 where
   completing : Row
   wrapping : Row
   unwrapping : Row
+  viewing : Row
+  showing : Row
 
 abbrev pub ofBlock : List ℕ
 ofBlock = 16 ∷ 14 ∷ 7 ∷ 8 ∷ 9 ∷ 10 ∷ 12 ∷ 13 ∷ 15 ∷ []
@@ -189,6 +199,8 @@ order judging = ofBlock
 order completing = 17 ∷ []
 order wrapping = 1 ∷ 18 ∷ 4 ∷ []
 order unwrapping = 1 ∷ 18 ∷ 4 ∷ 19 ∷ []
+order viewing = 6 ∷ []
+order showing = 20 ∷ []
 
 -- some call of a row gives this number; of a turn as C and Rust link it, the number of the whole turn and the reason of a block stand apart
 pub data Gives : Row → ℕ → Type 0 where
@@ -207,6 +219,12 @@ pub data Gives : Row → ℕ → Type 0 where
   by-read-complete : (κs : _) (a : _) (r : _) (s : _) → read-complete.Post κs a r s → Gives completing (completionNumber r)
   by-wrap : (κs : _) (a : _) (r : _) (s : _) → wrap.Post κs a r s → Gives wrapping (wrapNumber r)
   by-unwrap : (κs : _) (a : _) (r : _) (s : _) → unwrap.Post κs a r s → Gives unwrapping (wrapNumber r)
+  by-made-number : (κs : _) (a : _) (r : _) (s : _) → made-number.Post κs a r s → Gives viewing r
+  by-shown-number : (κs : _) (a : _) (r : _) (s : _) → shown-number.Post κs a r s → Gives showing r
+  by-block-answer-made : (κs : _) (a : _) (r : _) (s : _) → block-answer.Post κs a r s → Gives viewing (r .made)
+  by-block-answer : (κs : _) (a : _) (r : _) (s : _) → block-answer.Post κs a r s → Gives showing (r .number)
+  by-check-answer-made : (κs : _) (a : _) (r : _) (s : _) → check-answer.Post κs a r s → Gives viewing (r .made)
+  by-check-answer : (κs : _) (a : _) (r : _) (s : _) → check-answer.Post κs a r s → Gives showing (r .number)
   by-dock-schedule : (κs : _) (a : _) (r : _) (s : _) → dock-schedule.Post κs a r s → Gives keyed (r .number)
   by-dock-encrypt : (κs : _) (a : _) (r : _) (s : _) → dock-encrypt.Post κs a r s → Gives keyed (r .number)
   by-dock-decrypt : (κs : _) (a : _) (r : _) (s : _) → dock-decrypt.Post κs a r s → Gives keyed (r .number)
@@ -226,6 +244,10 @@ pub data Gives : Row → ℕ → Type 0 where
   by-dock-read-complete : (κs : _) (a : _) (r : _) (s : _) → dock-read-complete.Post κs a r s → Gives completing r
   by-dock-wrap : (κs : _) (a : _) (r : _) (s : _) → dock-wrap.Post κs a r s → Gives wrapping r
   by-dock-unwrap : (κs : _) (a : _) (r : _) (s : _) → dock-unwrap.Post κs a r s → Gives unwrapping r
+  by-dock-view-block-made : (κs : _) (a : _) (r : _) (s : _) → dock-view-block.Post κs a r s → Gives viewing (r .made)
+  by-dock-view-block : (κs : _) (a : _) (r : _) (s : _) → dock-view-block.Post κs a r s → Gives showing (r .number)
+  by-dock-view-check-made : (κs : _) (a : _) (r : _) (s : _) → dock-view-check.Post κs a r s → Gives viewing (r .made)
+  by-dock-view-check : (κs : _) (a : _) (r : _) (s : _) → dock-view-check.Post κs a r s → Gives showing (r .number)
 
 -- a number is one of a list
 abbrev pub OneOf : List ℕ → ℕ → Type 0
@@ -340,6 +362,26 @@ of-unwrap WrapSize = refl
 of-unwrap WrapRoom = refl
 of-unwrap WrongInitial = refl
 
+of-made : (n : ℕ) → among (0 ∷ order viewing) (madeNumber n) ≡ true
+unfolding among
+of-made n = go (madeNumber n) (views.made-numbers n)
+  where
+    go : (m : ℕ) → (m ≡ 0) ⊎ (m ≡ 6) → among (0 ∷ order viewing) m ≡ true
+    go m (inl e) = rw e refl
+    go m (inr e) = rw e refl
+
+of-shown : (n place : ℕ) → among (0 ∷ order showing) (shownNumber n place) ≡ true
+unfolding among
+of-shown n place = go (shownNumber n place) (views.shown-numbers n place)
+  where
+    go : (m : ℕ) → (m ≡ 0) ⊎ (m ≡ 20) → among (0 ∷ order showing) m ≡ true
+    go m (inl e) = rw e refl
+    go m (inr e) = rw e refl
+
+of-view : (from size n place : ℕ) → (among (0 ∷ order viewing) (answerOf from size n place .made) ≡ true) × (among (0 ∷ order showing) (answerOf from size n place .number) ≡ true)
+unfolding answerOf
+of-view from size n place = (of-made n, of-shown (heldLength n) place)
+
 -- a call gives 0 or a number of its row, and no other
 pub no-call-gives-another : (c : Row) (n : ℕ) → Gives c n → OneOf (0 ∷ order c) n
 no-call-gives-another c n (by-schedule κs a r s p) = found _ _ (of-key (r .answer))
@@ -357,6 +399,12 @@ no-call-gives-another c n (by-judge κs a r s p) = found _ _ (of-verdict (r .ver
 no-call-gives-another c n (by-read-complete κs a r s p) = found _ _ (of-completion r)
 no-call-gives-another c n (by-wrap κs a r s p) = found _ _ (of-wrap r (wrap-as-told κs a r s p .1))
 no-call-gives-another c n (by-unwrap κs a r s p) = found _ _ (of-unwrap r)
+no-call-gives-another c n (by-made-number κs a r s p) = found (0 ∷ order viewing) r (rw p (of-made _))
+no-call-gives-another c n (by-shown-number κs a r s p) = found (0 ∷ order showing) r (rw p (of-shown _ (a .1 .0)))
+no-call-gives-another c n (by-block-answer-made κs a r s p) = found (0 ∷ order viewing) (r .made) (rw p (of-view 0 512 (a .0) (a .1 .0) .0))
+no-call-gives-another c n (by-block-answer κs a r s p) = found (0 ∷ order showing) (r .number) (rw p (of-view 0 512 (a .0) (a .1 .0) .1))
+no-call-gives-another c n (by-check-answer-made κs a r s p) = found (0 ∷ order viewing) (r .made) (rw p (of-view 496 16 (a .0) (a .1 .0) .0))
+no-call-gives-another c n (by-check-answer κs a r s p) = found (0 ∷ order showing) (r .number) (rw p (of-view 496 16 (a .0) (a .1 .0) .1))
 no-call-gives-another c n (by-dock-schedule κs a r s p) = let b = dock-schedule-is-new κs a r s p in found (0 ∷ order keyed) (r .number) (rw (b .2) (of-key (b .0 .answer)))
 no-call-gives-another c n (by-dock-encrypt κs a r s p) = let b = dock-encrypt-is-encrypt κs a r s p in found (0 ∷ order keyed) (r .number) (rw (b .2) (of-key (b .0 .answer)))
 no-call-gives-another c n (by-dock-decrypt κs a r s p) = let b = dock-decrypt-is-decrypt κs a r s p in found (0 ∷ order keyed) (r .number) (rw (b .2) (of-key (b .0 .answer)))
@@ -376,6 +424,10 @@ no-call-gives-another c n (by-dock-read-turn-reason κs a r s p) = let b = dock-
 no-call-gives-another c n (by-dock-read-complete κs a r s p) = let b = dock-read-complete-is-read-complete κs a r s p in found (0 ∷ order completing) r (rw (b .2) (of-completion (b .0)))
 no-call-gives-another c n (by-dock-wrap κs a r s p) = let b = dock-wrap-is-wrap κs a r s p in found (0 ∷ order wrapping) r (rw (b .2) (of-wrap (b .0) (wrap-as-told κs a (b .0) s (b .1) .1)))
 no-call-gives-another c n (by-dock-unwrap κs a r s p) = let b = dock-unwrap-is-unwrap κs a r s p in found (0 ∷ order unwrapping) r (rw (b .2) (of-unwrap (b .0)))
+no-call-gives-another c n (by-dock-view-block-made κs a r s p) = found (0 ∷ order viewing) (r .made) (rw p (of-view 0 512 (a .0) (a .1 .0) .0))
+no-call-gives-another c n (by-dock-view-block κs a r s p) = found (0 ∷ order showing) (r .number) (rw p (of-view 0 512 (a .0) (a .1 .0) .1))
+no-call-gives-another c n (by-dock-view-check-made κs a r s p) = found (0 ∷ order viewing) (r .made) (rw p (of-view 496 16 (a .0) (a .1 .0) .0))
+no-call-gives-another c n (by-dock-view-check κs a r s p) = found (0 ∷ order showing) (r .number) (rw p (of-view 496 16 (a .0) (a .1 .0) .1))
 
 no-11 : (c : Row) → among (0 ∷ order c) 11 ≡ false
 unfolding among
@@ -388,6 +440,8 @@ no-11 judging = refl
 no-11 completing = refl
 no-11 wrapping = refl
 no-11 unwrapping = refl
+no-11 viewing = refl
+no-11 showing = refl
 
 -- and 11 is in no row
 pub no-call-gives-11 : (c : Row) → Gives c 11 → ⊥

@@ -261,3 +261,25 @@ fn the_longest_line_and_one_byte_more() {
         "?\n?\n"
     );
 }
+
+#[test]
+fn views_of_stored_images() {
+    let (first, check) = ("11".repeat(496), "22".repeat(16));
+    let image = format!("{first}{check}{}", "33".repeat(512));
+    let view =
+        |call: &str, image: &str, place: &str| answer(&format!("view-{call} {image} {place}"));
+    assert_eq!(view("block", &image, "0"), format!("0 2 0 {first}{check}"));
+    assert_eq!(view("check", &image, "00"), format!("0 2 0 {check}"));
+    assert_eq!(
+        view("check", &image, "1"),
+        format!("0 2 0 {}", "33".repeat(16))
+    );
+    assert_eq!(view("block", &image, "2"), "0 2 20 -");
+    assert_eq!(view("block", &image, "18446744073709551615"), "0 2 20 -");
+    assert_eq!(view("block", &image[2..], "0"), "6 0 20 -");
+    assert_eq!(view("check", "-", "0"), "0 0 20 -");
+    assert_eq!(view("block", &image, "18446744073709551616"), BAD);
+    assert_eq!(view("block", &image, "-"), BAD);
+    assert_eq!(view("block", &image[1..], "0"), BAD);
+    assert_eq!(answer(&format!("view-block {image}")), BAD);
+}

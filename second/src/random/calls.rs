@@ -2,6 +2,7 @@
 
 use super::plan::Plan;
 use super::rng::Rng;
+use super::views::view_words;
 use super::wraps::{unwrap_words, wrap_words};
 use crate::aes::Block;
 use crate::hex::shown;
@@ -46,6 +47,8 @@ pub const CALLS: &[Call] = &[
     call("read-complete", 2, no_words),
     call("wrap", 2, wrap_words),
     call("unwrap", 3, unwrap_words),
+    call("view-block", 2, view_words),
+    call("view-check", 2, view_words),
 ];
 
 pub struct Draw {
@@ -116,7 +119,7 @@ impl Draw {
         self.hex(length)
     }
 
-    fn numeral(&mut self, number: u64) -> String {
+    pub fn numeral(&mut self, number: u64) -> String {
         let zeros = if self.rng.percent(10) {
             self.rng.below(30)
         } else {

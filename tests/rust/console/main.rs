@@ -5,11 +5,12 @@ mod held;
 mod lent;
 mod words;
 
-use dock::{Check, Reader, Refusal, Turn};
+use dock::{Check, Reader, Refusal, Turn, View};
 use held::{Reading, Running};
 use lent::{stop, Lent};
 use std::env;
 use std::io::{self, BufRead, BufWriter, Read, Write};
+use std::ptr;
 use words::{array, bytes, hex, number};
 
 const LONGEST: usize = 65_536;
@@ -70,6 +71,8 @@ impl Console {
             (b"read-complete", []) => Some(self.reading.complete().to_string()),
             (b"wrap", [key, data, room]) => wrapping(dock::wrap, key, data, room),
             (b"unwrap", [key, data, room]) => wrapping(dock::unwrap, key, data, room),
+            (b"view-block", [image, place]) => view(|v, at| v.block(at), 0, image, place),
+            (b"view-check", [image, place]) => view(|v, at| v.check(at), 496, image, place),
             _ => None,
         }
     }
@@ -197,6 +200,30 @@ fn wrapping(call: Wrapping, key: &[u8], data: &[u8], room: &[u8]) -> Option<Stri
     let (key, data, mut room) = (input(key)?, input(data)?, output(room)?);
     let result = call(&key, &data, room.lend());
     Some(format!("{} {}", number_of(&result), hex(&room)))
+}
+
+type Showing = for<'a> fn(View<'a>, usize) -> Result<&'a [u8], Refusal>;
+
+fn view(call: Showing, from: usize, image: &[u8], place: &[u8]) -> Option<String> {
+    let (image, place) = (input(image)?, number(place)?);
+    let made = View::of(&image);
+    let view = made.unwrap_or_default();
+    let shown = call(view, place);
+    if shown.map_or(false, |part| {
+        !ptr::eq(part.as_ptr(), &image[512 * place + from])
+    }) {
+        stop("what is shown is not a part of the image itself");
+    }
+    if made.is_ok() && !view.blocks().eq(image.chunks(512)) {
+        stop("the blocks of a view are not those of its image");
+    }
+    Some(format!(
+        "{} {} {} {}",
+        number_of(&made),
+        view.len(),
+        number_of(&shown),
+        hex(shown.unwrap_or_default())
+    ))
 }
 
 fn block_words(result: Result<[u8; 16], Refusal>) -> String {

@@ -1,7 +1,8 @@
 //! What the package promises besides the calls of `dock.h`: checks are verified, key material is overwritten when it is dropped, no
-//! check and no reader is without a key, and a refusal is an error like others. It stops at the first that does not hold.
+//! check and no reader is without a key, a view goes through its blocks, and a refusal is an error like others. It stops at the first
+//! that does not hold.
 
-use dock::{Check, Reader, Refusal};
+use dock::{Check, Reader, Refusal, View};
 use std::mem::{size_of, MaybeUninit};
 use std::ptr;
 
@@ -96,12 +97,35 @@ fn error() {
 #[cfg(not(dock_core_error))]
 fn error() {}
 
+/// A view that has been made outlives no image, shows the image itself, and goes through its blocks once.
+fn views() -> Result<(), Refusal> {
+    let image: Vec<u8> = (0..3 * 512u32).map(|i| (i / 7) as u8).collect();
+    let view = View::of(&image)?;
+    assert_eq!((view.len(), view.blocks().len()), (3, 3));
+    assert!(view.into_iter().eq(image.chunks(512)));
+    assert!(ptr::eq(view.block(1)?.as_ptr(), &image[512]));
+    assert!(ptr::eq(view.check(2)?.as_ptr(), &image[2 * 512 + 496]));
+    let mut blocks = view.blocks();
+    assert_eq!(
+        (blocks.by_ref().count(), blocks.next(), blocks.len()),
+        (3, None, 0)
+    );
+    assert_eq!(View::of(&image[1..]).unwrap_err(), Refusal::LentLength);
+    for view in [View::default(), View::of(&[])?] {
+        assert!(view.is_empty() && view.blocks().next().is_none());
+        assert_eq!(view.block(0), Err(Refusal::NotBelowCount));
+        assert_eq!(view.check(usize::MAX), Err(Refusal::NotBelowCount));
+    }
+    Ok(())
+}
+
 fn main() -> Result<(), Refusal> {
     <Check as NoDefault<_>>::holds();
     <Reader as NoDefault<_>>::holds();
     verify()?;
     drops()?;
+    views()?;
     error();
-    println!("package: checks are verified, and key material is overwritten when it is dropped");
+    println!("package: checks are verified, key material is overwritten when it is dropped, and views show the image itself");
     Ok(())
 }
