@@ -206,6 +206,18 @@ enum { PLACES = sizeof places / sizeof places[0] };
 ON_VIEW(view_block)
 ON_VIEW(view_check)
 
+static void on_saes_encrypt(void)
+{
+    dock_states s = ON(dock_saes_encrypt)(0x1f56, 0x2726);
+    seen(s.third == 0x2105);
+}
+
+static void on_saes_decrypt(void)
+{
+    dock_states s = ON(dock_saes_decrypt)(0x1f56, 0x2105);
+    seen(s.third == 0x2726);
+}
+
 // What a caller pushes before the call: structs by value of more than 16 bytes, and whatever comes after six numbers or pointers.
 // A result of more than 16 bytes goes where the caller has room for it.
 static const struct {
@@ -236,6 +248,8 @@ static const struct {
     {"dock_unwrap", on_unwrap, 0, 0},
     {"dock_view_block", on_view_block, 0, sizeof(dock_view_answer)},
     {"dock_view_check", on_view_check, 0, sizeof(dock_view_answer)},
+    {"dock_saes_encrypt", on_saes_encrypt, 0, 0},
+    {"dock_saes_decrypt", on_saes_decrypt, 0, 0},
 };
 
 // Two colours, since a byte that a call happens to write in the first shows in the second.

@@ -1,4 +1,5 @@
-// The library's calls for C and C++: AES, its modes, the check (CMAC), release images and views of them, and the key wrap.
+// The library's calls for C and C++: AES, its modes, the check (CMAC), release images and views of them, the key wrap, and the bench
+// model for apprentices.
 //
 // Building and linking. `rt staticlib dock` proves the library and writes target/staticlib/libdock.a, for x86-64 Linux. It has every
 // call below, and uses memcpy and memset and nothing else: no heap, no file, no memory of its own that is written. So calls may run in
@@ -277,6 +278,19 @@ uint32_t dock_wrap(const uint8_t *key, size_t key_length, const uint8_t *data, s
 // to be a wrapping under this key. The answer is 0 or the first that applies of 1, 18, 4, 19.
 uint32_t dock_unwrap(const uint8_t *key, size_t key_length, const uint8_t *data, size_t data_length,
                      uint8_t *output, size_t output_length);
+
+// ---- Simplified AES, the bench model for apprentices: 16-bit keys and blocks, no secrets. docs/APPRENTICE.md has it step by step.
+
+// The state after each of the three key additions. The third is the result.
+typedef struct {
+    uint16_t first;
+    uint16_t second;
+    uint16_t third;
+} dock_states;
+
+// Every key and every block is taken, so nothing is refused and there is no number. Each undoes the other.
+dock_states dock_saes_encrypt(uint16_t key, uint16_t block);
+dock_states dock_saes_decrypt(uint16_t key, uint16_t block);
 
 #ifdef __cplusplus
 }

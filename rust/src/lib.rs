@@ -1,5 +1,5 @@
-//! AES, its modes, the check (CMAC), release images and views of them, and the key wrap: safe calls over the C exports of a library in which every
-//! function is proved.
+//! AES, its modes, the check (CMAC), release images and views of them, the key wrap and the bench model for apprentices: safe calls
+//! over the C exports of a library in which every function is proved.
 //!
 //! Every call ends, and every input has one answer: a result, or a [`Refusal`] with the number that `docs/REFUSALS.md` explains.
 //! A refused call leaves its output and whatever it is called on as they were, and no call changes a byte of an output past its
@@ -48,6 +48,7 @@ mod cipher;
 mod image;
 mod modes;
 mod refusal;
+mod saes;
 pub mod sys;
 mod view;
 mod wipe;
@@ -60,5 +61,6 @@ pub use modes::{
     cbc_decrypt, cbc_encrypt, cfb_decrypt, cfb_encrypt, ecb_decrypt, ecb_encrypt, ofb,
 };
 pub use refusal::Refusal;
+pub use saes::{saes_decrypt, saes_encrypt};
 pub use view::{Blocks, View};
 pub use wrap::{unwrap, wrap};

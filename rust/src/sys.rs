@@ -111,6 +111,15 @@ pub struct ViewAnswer {
     pub length: usize,
 }
 
+/// The state after each of the three key additions of Simplified AES.
+#[repr(C)]
+#[derive(Clone, Copy)]
+pub struct States {
+    pub first: u16,
+    pub second: u16,
+    pub third: u16,
+}
+
 impl Record {
     pub const ZERO: Record = Record {
         words: [0; 60],
@@ -235,4 +244,7 @@ extern "C" {
         key: *const u8, key_length: usize, data: *const u8, data_length: usize,
         output: *mut u8, output_length: usize,
     ) -> u32;
+
+    pub fn dock_saes_encrypt(key: u16, block: u16) -> States;
+    pub fn dock_saes_decrypt(key: u16, block: u16) -> States;
 }

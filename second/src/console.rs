@@ -3,8 +3,8 @@
 //! Where the page that fixes the form of the lines is silent, it is read so:
 //!
 //! - A line is judged whole before anything is called: bad hex beside a key of a wrong length
-//!   answers `?`, not 1. So does a block or a previous check that is not 16 bytes, or a factor
-//!   of `product` that is not one byte, `-` too.
+//!   answers `?`, not 1. So does a block or a previous check that is not 16 bytes, a factor of
+//!   `product` that is not one byte, or a key or block of `saes-..` that is not two, `-` too.
 //! - First words are in lower case only. Two spaces in a row make an empty word, which is
 //!   neither hex nor a number; so do a space at the front and one at the end.
 //! - `-` is no bytes where bytes are due and bad where a number is due. Inside a longer word it
@@ -25,6 +25,7 @@ use crate::hex;
 use crate::image::{self, Reader, Turn, Which};
 use crate::modes::{self, Operation};
 use crate::refusal::{number_of, Refusal};
+use crate::saes::{Saes, States};
 use crate::view::View;
 use crate::wrap;
 use std::io::{self, BufRead, Read, Write};
@@ -118,6 +119,8 @@ impl Console {
             (b"unwrap", [key, data, output]) => wrap_call(wrap::unwrap, key, data, output),
             (b"view-block", [image, place]) => view_call(image, place, |view, at| view.block(at)),
             (b"view-check", [image, place]) => view_call(image, place, |view, at| view.check(at)),
+            (b"saes-encrypt", [key, block]) => apprentice(Saes::encrypt, key, block),
+            (b"saes-decrypt", [key, block]) => apprentice(Saes::decrypt, key, block),
             (name, [key, iv, input, output]) => mode_call(name, key, iv, input, output),
             _ => None,
         }
@@ -262,6 +265,15 @@ fn view_call(
         number_of(&shown),
         hex::shown(shown.unwrap_or_default())
     ))
+}
+
+fn apprentice(way: fn(&Saes, u16) -> States, key: &[u8], block: &[u8]) -> Option<String> {
+    let (key, block) = (bytes(key)?, bytes(block)?);
+    let [first, second, third] = way(
+        &Saes::new(u16::from_be_bytes(key)),
+        u16::from_be_bytes(block),
+    );
+    Some(format!("0 {first:04x} {second:04x} {third:04x}"))
 }
 
 /// Everything that a turn answers before its output.

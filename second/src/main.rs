@@ -1,4 +1,5 @@
-//! An independent second program for the cipher, its modes, the check, release images and views of them, and the key wrap.
+//! An independent second program for the cipher, its modes, the check, release images and views of them, the key wrap and the bench model
+//! for apprentices.
 
 mod aes;
 mod cmac;
@@ -10,6 +11,7 @@ mod listing;
 mod modes;
 mod random;
 mod refusal;
+mod saes;
 mod view;
 mod wrap;
 
@@ -21,7 +23,7 @@ use std::process::ExitCode;
 use std::str::FromStr;
 
 const USAGE: &str = "usage: second console | second list | second seal KEYS RELEASE [EDITION] \
-                     | second random SEED COUNT [CALL,CALL...] | second listings SEED DIR | second turns SEED DIR";
+                     | second random SEED COUNT [CALL,CALL...] | second listings SEED DIR | second turns SEED DIR | second blocks KEY..";
 
 fn main() -> ExitCode {
     let words: Vec<String> = env::args_os()
@@ -51,6 +53,10 @@ fn run(words: &[&str]) -> Result<(), String> {
         ["random", seed, count, calls] => random(number(seed)?, number(count)?, Some(calls))?,
         ["listings", seed, dir] => listings(number(seed)?, Path::new(dir)),
         ["turns", seed, dir] => turns(number(seed)?, Path::new(dir)),
+        ["blocks", keys @ ..] => {
+            let keys: Result<Vec<u16>, String> = keys.iter().map(|key| short_key(key)).collect();
+            blocks(&keys?)
+        }
         _ => return Err(USAGE.to_string()),
     };
     done.map_err(|error| error.to_string())
@@ -103,6 +109,24 @@ fn turns(seed: u64, dir: &Path) -> io::Result<()> {
     random::turns::write(seed, &mut lines, &mut answers)?;
     lines.flush()?;
     answers.flush()
+}
+
+/// Every block under each key of 16 bits: the states of its encryption and then those of its decryption, two bytes each.
+fn blocks(keys: &[u16]) -> io::Result<()> {
+    let mut output = BufWriter::new(io::stdout().lock());
+    for key in keys {
+        let saes = saes::Saes::new(*key);
+        for block in 0..=u16::MAX {
+            for state in saes.encrypt(block).iter().chain(&saes.decrypt(block)) {
+                output.write_all(&state.to_be_bytes())?;
+            }
+        }
+    }
+    output.flush()
+}
+
+fn short_key(word: &str) -> Result<u16, String> {
+    u16::from_str_radix(word, 16).map_err(|_| format!("not a key of 16 bits: {word:?}"))
 }
 
 fn print_lines(lines: random::Lines, count: u64) -> io::Result<()> {

@@ -28,6 +28,7 @@ typedef dock_chain_answer chain_call(const uint8_t *, size_t, const uint8_t *, s
 typedef uint32_t wrap_call(const uint8_t *, size_t, const uint8_t *, size_t, uint8_t *, size_t);
 typedef dock_block_answer block_call(const uint8_t *, size_t, dock_block);
 typedef dock_view_answer view_call(size_t, size_t);
+typedef dock_states states_call(uint16_t, uint16_t);
 
 typedef struct form form;
 
@@ -41,6 +42,7 @@ struct form {
         wrap_call *wrap;
         block_call *block;
         view_call *view;
+        states_call *states;
     } call;  // where one function answers for several calls
 };
 
@@ -275,6 +277,29 @@ static bool view(const form *f, const word *w) {
     return true;
 }
 
+static bool number16(word w, uint16_t *number) {
+    uint8_t bytes[2];
+    if (!fixed(w, bytes, 2)) return false;
+    *number = (uint16_t)(bytes[0] << 8 | bytes[1]);
+    return true;
+}
+
+static void put_number16(uint16_t number) {
+    uint8_t bytes[2] = {(uint8_t)(number >> 8), (uint8_t)number};
+    put_bytes(bytes, 2);
+}
+
+static bool apprentice(const form *f, const word *w) {
+    uint16_t key, block;
+    if (!number16(w[0], &key) || !number16(w[1], &block)) return false;
+    dock_states states = f->call.states(key, block);
+    put_number(0);
+    put_number16(states.first);
+    put_number16(states.second);
+    put_number16(states.third);
+    return true;
+}
+
 static const form forms[] = {
     {"product", 2, product, {NULL}},
     {"schedule", 1, schedule, {NULL}},
@@ -299,6 +324,8 @@ static const form forms[] = {
     {"unwrap", 3, wrap, {.wrap = dock_unwrap}},
     {"view-block", 2, view, {.view = dock_view_block}},
     {"view-check", 2, view, {.view = dock_view_check}},
+    {"saes-encrypt", 2, apprentice, {.states = dock_saes_encrypt}},
+    {"saes-decrypt", 2, apprentice, {.states = dock_saes_decrypt}},
 };
 
 static const form *form_named(word name) {

@@ -1,4 +1,4 @@
-// Faults planted on purpose: a driver linked with these in place of ten calls must stop, or answer otherwise than the second program.
+// Faults planted on purpose: a driver linked with these in place of eleven calls must stop, or answer otherwise than the second program.
 // The linker puts __wrap_CALL in the place of CALL (--wrap) and leaves the library's own as __real_CALL; FAULT in the environment
 // says which fault is made, and without it there is none.
 #include <stdlib.h>
@@ -21,6 +21,7 @@ dock_check_answer __real_dock_check(const uint8_t *, size_t, const uint8_t *, si
 dock_block_answer __real_dock_decrypt(const uint8_t *, size_t, dock_block);
 dock_block_answer __real_dock_encrypt(const uint8_t *, size_t, dock_block);
 void __real_dock_check_feed(dock_record *, const uint8_t *, size_t);
+dock_states __real_dock_saes_decrypt(uint16_t, uint16_t);
 dock_turn_answer __real_dock_read_turn(dock_reader, const uint8_t *, size_t, size_t, uint8_t *, size_t);
 dock_view_answer __real_dock_view_block(size_t, size_t);
 dock_view_answer __real_dock_view_check(size_t, size_t);
@@ -98,4 +99,11 @@ dock_view_answer __wrap_dock_view_check(size_t image_length, size_t place) {
     dock_view_answer answer = __real_dock_view_check(image_length, place);
     if (made(11) && answer.number == DOCK_DONE) answer.offset -= 16;
     return answer;
+}
+
+// 12: one bit of the state in the middle of a decryption.
+dock_states __wrap_dock_saes_decrypt(uint16_t key, uint16_t block) {
+    dock_states states = __real_dock_saes_decrypt(key, block);
+    if (made(12)) states.second ^= 1;
+    return states;
 }

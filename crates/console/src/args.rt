@@ -3,6 +3,7 @@
 //     .  the name of the call
 //     x  bytes
 //     1  one byte
+//     2  two bytes
 //     b  a block of 16 bytes
 //     n  a number of 32 bits
 //     w  a number of 64 bits
@@ -113,6 +114,9 @@ fn has_size(kind: u8, from: usize, to: usize) -> bool {
     if kind == b'1' {
         return to - from == 1;
     }
+    if kind == b'2' {
+        return to - from == 2;
+    }
     if kind == b'b' {
         return to - from == 16;
     }
@@ -165,6 +169,16 @@ pub fn count(a: Args, k: usize) -> usize {
 pub fn byte(ins: &[u8], a: Args, k: usize) -> u8 {
     let s = bytes(ins, a, k);
     if s.len() == 1 { s[0] } else { 0 }
+}
+
+// The two bytes of word k where the form asks for them, the high one first.
+pub fn short(ins: &[u8], a: Args, k: usize) -> u16 {
+    let s = bytes(ins, a, k);
+    if s.len() == 2 { joined(s[0], s[1]) } else { 0 }
+}
+
+fn joined(high: u8, low: u8) -> u16 {
+    high as u16 * 256 + low as u16
 }
 
 // The block of word k where the form asks for one.

@@ -5,6 +5,7 @@ use crate::checked;
 use crate::held::Held;
 use crate::imaged;
 use crate::moded;
+use crate::simplified;
 use crate::viewed;
 use crate::wrapped;
 use args::Args;
@@ -12,11 +13,12 @@ use basic::BasicCall;
 use checked::CheckCall;
 use imaged::ImageCall;
 use modes_spec::Operation;
+use simplified::SimplifiedCall;
 use viewed::ViewCall;
 use wrapped::WrapCall;
 
 // A row has the name of a call, and from its place 20 on the form of its line: the letters are in args.rt.
-const ROWS: [[u8; 30]; 23] = [
+const ROWS: [[u8; 30]; 25] = [
     *b"product             .11       ",
     *b"schedule            .x        ",
     *b"encrypt             .xb       ",
@@ -40,6 +42,8 @@ const ROWS: [[u8; 30]; 23] = [
     *b"unwrap              .xxo      ",
     *b"view-block          .xw       ",
     *b"view-check          .xw       ",
+    *b"saes-encrypt        .22       ",
+    *b"saes-decrypt        .22       ",
 ];
 
 pub enum Call {
@@ -50,6 +54,7 @@ pub enum Call {
     Imaged(ImageCall),
     Wrapped(WrapCall),
     Viewed(ViewCall),
+    Simplified(SimplifiedCall),
     Unknown,
 }
 
@@ -79,19 +84,21 @@ fn call_at(k: usize) -> Call {
         20 => Call::Wrapped(WrapCall::Unwrap),
         21 => Call::Viewed(ViewCall::ViewBlock),
         22 => Call::Viewed(ViewCall::ViewCheck),
+        23 => Call::Simplified(SimplifiedCall::Encrypt),
+        24 => Call::Simplified(SimplifiedCall::Decrypt),
         _ => Call::Unknown,
     }
 }
 
 // No line has the form of a row past the last, since that asks for no word at all.
 fn row(k: usize) -> [u8; 30] {
-    if k < 23 { ROWS[k] } else { [32; 30] }
+    if k < 25 { ROWS[k] } else { [32; 30] }
 }
 
-// The row that has a word for its name, or 23.
+// The row that has a word for its name, or 25.
 fn row_of(w: &[u8]) -> usize {
     let mut k: usize = 0;
-    while k < 23 {
+    while k < 25 {
         if has_name(row(k), w) {
             return k;
         }
@@ -127,6 +134,7 @@ fn made(call: Call, held: Held, ins: &[u8], a: Args, outs: &mut [u8], text: &mut
         Call::Imaged(c) => imaged::answer(c, held, ins, a, outs, text, at),
         Call::Wrapped(c) => held.at(wrapped::answer(c, ins, a, outs, text, at)),
         Call::Viewed(c) => held.at(viewed::answer(c, ins, a, text, at)),
+        Call::Simplified(c) => held.at(simplified::answer(c, ins, a, text, at)),
         Call::Unknown => held,
     }
 }

@@ -7,6 +7,7 @@ mod held;
 mod imaged;
 mod moded;
 mod print;
+mod simplified;
 mod stopped;
 mod streams;
 mod viewed;

@@ -9,6 +9,7 @@ use image_reader::Reader;
 use image_view::ViewAnswer;
 use image_writer_answer::Numbers;
 use modes_spec::Operation;
+use saes_spec::States;
 ghost use mathlib.Core.Path.{_≡_};
 ghost use Rattle.field.specs.Field.{_•_};
 ghost use Rattle.aes_sbox.specs.Sbox.{sBox};
@@ -25,6 +26,7 @@ ghost use Rattle.image_reader.specs.Calls.{turnOf};
 ghost use Rattle.image_view.specs.Views as views;
 ghost use Rattle.wrap_answer.specs.Answers.{wrapNumber};
 ghost use Rattle.wrap.specs.Calls.{wrapAnswer, wrapOutput, unwrapAnswer, unwrapOutput};
+ghost use Rattle.saes_spec.specs.Saes.{encrypted, decrypted};
 ghost use Rattle.dock.specs.Answers.{scheduleAnswer, blockAnswer, chainAnswer, modeApplied, afterMode, checkAnswer, startAnswer, closeAnswer, readStartAnswer, numbers};
 ghost use Rattle.dock_turn.specs.Answers.{turnAnswer};
 
@@ -322,6 +324,21 @@ pub extern "C" fn dock_unwrap(key: &[u8], data: &[u8], output: &mut [u8]) -> u32
 {
     let answer = wrap::unwrap(key, data, output);
     answer.number()
+}
+
+// The bench model for apprentices refuses nothing, so its answer has no number.
+#[no_mangle]
+pub extern "C" fn dock_saes_encrypt(key: u16, block: u16) -> States
+    ensures { λ r. ⌜ r ≡ encrypted key block ⌝ }
+{
+    saes::encrypt(key, block)
+}
+
+#[no_mangle]
+pub extern "C" fn dock_saes_decrypt(key: u16, block: u16) -> States
+    ensures { λ r. ⌜ r ≡ decrypted key block ⌝ }
+{
+    saes::decrypt(key, block)
 }
 
 fn block_answer(c: Ciphered) -> BlockAnswer

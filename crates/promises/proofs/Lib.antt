@@ -4,6 +4,7 @@ pub mod Aes
 pub mod Modes
 pub mod Cmac
 pub mod Wrap
+pub mod Saes
 pub mod Image
 pub mod Text
 pub mod Dock

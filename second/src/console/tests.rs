@@ -45,6 +45,12 @@ fn good_lines() {
 }
 
 #[test]
+fn the_states_of_an_apprentice() {
+    assert_eq!(answer("saes-encrypt 1F56 2726"), "0 3870 8da9 2105");
+    assert_eq!(answer("saes-decrypt 1f56 2105"), "0 620e 93e1 2726");
+}
+
+#[test]
 fn wrapped_and_back() {
     let key = "000102030405060708090a0b0c0d0e0f";
     let data = "00112233445566778899aabbccddeeff";
@@ -158,6 +164,11 @@ fn bad_lines() {
         "wrap 0 - -",
         "unwrap - - 0",
         "Unwrap - - -",
+        "saes-encrypt 1f56",
+        "saes-encrypt 1f56 2726 -",
+        "saes-encrypt 1f 2726",
+        "saes-decrypt 1f56 272600",
+        "saes-decrypt - 2726",
     ] {
         assert_eq!(answer(line), "?", "{line:?}");
     }

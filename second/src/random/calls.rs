@@ -49,6 +49,8 @@ pub const CALLS: &[Call] = &[
     call("unwrap", 3, unwrap_words),
     call("view-block", 2, view_words),
     call("view-check", 2, view_words),
+    call("saes-encrypt", 2, two_short_words),
+    call("saes-decrypt", 2, two_short_words),
 ];
 
 pub struct Draw {
@@ -144,6 +146,19 @@ fn no_words(_: &mut Draw) -> Vec<String> {
 
 fn two_bytes(draw: &mut Draw) -> Vec<String> {
     vec![draw.hex(1), draw.hex(1)]
+}
+
+/// A key and a block of two bytes, seldom of another length.
+fn two_short_words(draw: &mut Draw) -> Vec<String> {
+    let mut word = || {
+        let length = if draw.rng.percent(97) {
+            2
+        } else {
+            draw.rng.pick([0, 1, 3, 4, 16])
+        };
+        draw.hex(length)
+    };
+    vec![word(), word()]
 }
 
 fn one_key(draw: &mut Draw) -> Vec<String> {

@@ -73,6 +73,8 @@ impl Console {
             (b"unwrap", [key, data, room]) => wrapping(dock::unwrap, key, data, room),
             (b"view-block", [image, place]) => view(|v, at| v.block(at), 0, image, place),
             (b"view-check", [image, place]) => view(|v, at| v.check(at), 496, image, place),
+            (b"saes-encrypt", [key, block]) => apprentice(dock::saes_encrypt, key, block),
+            (b"saes-decrypt", [key, block]) => apprentice(dock::saes_decrypt, key, block),
             _ => None,
         }
     }
@@ -224,6 +226,13 @@ fn view(call: Showing, from: usize, image: &[u8], place: &[u8]) -> Option<String
         number_of(&shown),
         hex(shown.unwrap_or_default())
     ))
+}
+
+fn apprentice(call: fn(u16, u16) -> [u16; 3], key: &[u8], block: &[u8]) -> Option<String> {
+    let (key, block) = (array(key)?, array(block)?);
+    let states = call(u16::from_be_bytes(key), u16::from_be_bytes(block));
+    let [first, second, third] = states.map(|state| hex(&state.to_be_bytes()));
+    Some(format!("0 {first} {second} {third}"))
 }
 
 fn block_words(result: Result<[u8; 16], Refusal>) -> String {

@@ -1,0 +1,3 @@
+pub mod Nibbles
+pub mod Undo
+pub mod Pins
