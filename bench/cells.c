@@ -16,11 +16,13 @@ const cell cells[CELLS] = {
     {"CMAC of 496 bytes", "ns", 16},
     {"an image block written", "ns", BLOCK}, {"an image block read", "ns", PAYLOAD},
     {"a turn of 128 blocks read", "MB/s", TURN * PAYLOAD},
+    {"a message of 496 bytes sealed", "ns", MESSAGE + 8}, {"a message of 496 bytes opened", "ns", MESSAGE},
 };
 // clang-format on
 
 uint8_t output[LONG];
-static uint8_t input[LONG], blocks[TURN * BLOCK], key[32], check_key[32], iv[16];
+static uint8_t input[LONG], blocks[TURN * BLOCK], key[32], check_key[32], iv[16], sealed[MESSAGE + 8];
+static const message plain = {iv, check_key, input, DATA, MESSAGE}, closed = {iv, check_key, sealed, DATA, MESSAGE + 8};
 static const image_place place = {0, TURN, 7};
 static const dock_block none;
 static dock_reader reader;
@@ -39,6 +41,7 @@ void make_inputs(const peer *sealer, size_t key_length)
     fill(check_key, sizeof check_key, 2);
     fill(iv, sizeof iv, 3);
     fill(input, sizeof input, 4);
+    sealer->ccm(ENCRYPT, key, key_length, &plain, sealed);
     sealer->set(CBC, ENCRYPT, key, key_length);
     sealer->set_check(check_key, key_length);
     for (uint32_t j = 0; j < TURN; j++) {
@@ -113,6 +116,13 @@ static void turn(size_t k)
     must(answer.number == 0 && answer.reason == 0 && answer.accepted == k, "ours: a turn");
 }
 
+static void ccm(int way, size_t key_length)
+{
+    const message *m = way == ENCRYPT ? &plain : &closed;
+    must((way == ENCRYPT ? dock_ccm_seal : dock_ccm_open)(key, key_length, m->nonce, 13, m->ad, m->ad_length, m->text, m->length, output,
+                                                         LONG) == 0, "ours: ccm");
+}
+
 static void call_ours(int at, size_t key_length)
 {
     if (at < WHOLE)
@@ -124,6 +134,8 @@ static void call_ours(int at, size_t key_length)
     else if (at == WRITE)
         must(dock_write(key, key_length, check_key, key_length, place.next, place.count, place.release, 1, none,
                         input, PAYLOAD, output, BLOCK) == 0, "ours: write");
+    else if (at >= SEAL)
+        ccm(at - SEAL, key_length);
     else
         turn(at == READ ? 1 : TURN);
 }
@@ -141,6 +153,8 @@ static void call_peer(const peer *p, int at, size_t key_length)
         p->set(CBC, ENCRYPT, key, key_length);
         p->set_check(check_key, key_length);
         image_seal(p, place, input, output);
+    } else if (at >= SEAL) {
+        p->ccm(at - SEAL, key, key_length, at == SEAL ? &plain : &closed, output);
     } else {
         size_t k = at == READ ? 1 : TURN;
         must(image_read(p, place, blocks, k, output) == k, p->name);

@@ -3,7 +3,7 @@
 #define CELLS_H
 #include "peers.h"
 
-enum { LONG = 1 << 20, TURN = 128, BLOCK = 512, PAYLOAD = 480 };
+enum { LONG = 1 << 20, TURN = 128, BLOCK = 512, PAYLOAD = 480, MESSAGE = 496, DATA = 20 };
 
 typedef struct {
     const char *name;
@@ -11,8 +11,8 @@ typedef struct {
     size_t result;     // bytes that a call puts out
 } cell;
 
-// Two cells of one block, two of each mode but OFB, which has one and stands last, the check, the writer and the reader.
-enum { ONE_BLOCK = 0, WHOLE = ONE_BLOCK + WAYS, CHECK = WHOLE + OFB * WAYS + 1, WRITE, READ, READ_TURN, CELLS };
+// Two cells of one block, two of each mode but OFB, which has one and stands last, the check, the writer, the reader, and a message each way.
+enum { ONE_BLOCK = 0, WHOLE = ONE_BLOCK + WAYS, CHECK = WHOLE + OFB * WAYS + 1, WRITE, READ, READ_TURN, SEAL, OPEN, CELLS };
 extern const cell cells[CELLS];
 
 // Where every call puts its result.

@@ -9,7 +9,7 @@
 
 enum { MOST = 64 };
 
-static uint8_t key[32], check_key[32], input[MOST * 16], output[MOST * 16], block[512], plain[480];
+static uint8_t key[32], check_key[32], input[MOST * 16], output[MOST * 16], block[512], plain[480], sealed[504];
 static const image_place place = {0, 1, 7};
 static const dock_block none;
 
@@ -46,6 +46,10 @@ static void one_ours(const char *call, size_t size, const dock_reader *reader)
         must(dock_check(check_key, size, input, 496).number == 0, call);
     else if (strcmp(call, "write") == 0)
         must(dock_write(key, size, check_key, size, 0, 1, 7, 1, none, plain, 480, block, 512) == 0, call);
+    else if (strcmp(call, "seal") == 0)
+        must(dock_ccm_seal(key, size, input, 13, input, 20, input, 496, output, 504) == 0, call);
+    else if (strcmp(call, "open") == 0)
+        must(dock_ccm_open(key, size, input, 13, input, 20, sealed, 504, output, 496) == 0, call);
     else
         must(dock_read_turn(*reader, block, 512, 1, output, 480).accepted == 1, call);
 }
@@ -54,6 +58,7 @@ static void ours(const char *call, size_t size, size_t times)
 {
     dock_reader reader = dock_read_start(key, size, check_key, size).reader;
     must(dock_write(key, size, check_key, size, 0, 1, 7, 1, none, plain, 480, block, 512) == 0, "write");
+    must(dock_ccm_seal(key, size, input, 13, input, 20, input, 496, sealed, 504) == 0, "seal");
     if (strchr(call, '-'))
         mode_ours(call, size, 16 * times);
     else
@@ -81,6 +86,10 @@ static void one_peer(const peer *p, const char *call, size_t size)
         p->set(CBC, ENCRYPT, key, size);
         p->set_check(check_key, size);
         image_seal(p, place, plain, block);
+    } else if (strcmp(call, "seal") == 0) {
+        p->ccm(ENCRYPT, key, size, &(message){input, input, input, 20, 496}, output);
+    } else if (strcmp(call, "open") == 0) {
+        p->ccm(DECRYPT, key, size, &(message){input, input, sealed, 20, 504}, output);
     } else {
         must(image_read(p, place, block, 1, output) == 1, call);
     }
@@ -92,6 +101,7 @@ static void theirs(const peer *p, const char *call, size_t size, size_t times)
     p->set(CBC, DECRYPT, key, size);
     p->set_check(check_key, size);
     image_seal(p, place, plain, block);
+    p->ccm(ENCRYPT, key, size, &(message){input, input, input, 20, 496}, sealed);
     if (strchr(call, '-'))
         mode_peer(p, call, size, 16 * times);
     else

@@ -94,4 +94,49 @@ static void check(const uint8_t *message, size_t length, uint8_t *out)
     memcpy(out, chain, 16);
 }
 
-const peer bytewise_peer = {"byte-wise C", set, run, lone, set_check, check};
+static void numbered(uint8_t *block, uint8_t flags, const uint8_t *nonce, size_t n)
+{
+    block[0] = flags;
+    memcpy(block + 1, nonce, 13);
+    block[14] = (uint8_t)(n >> 8), block[15] = (uint8_t)n;
+}
+
+// Into the chain, with zeros up to whole pieces; `held` bytes of the first piece are there already.
+static void absorb(uint8_t *chain, size_t held, const uint8_t *text, size_t length)
+{
+    for (size_t i = 0; i < length; i++) {
+        chain[held++] ^= text[i];
+        if (held == 16)
+            bytewise_encrypt(&cipher_key, chain, chain), held = 0;
+    }
+    if (held)
+        bytewise_encrypt(&cipher_key, chain, chain);
+}
+
+static void ccm(int way, const uint8_t *key, size_t length, const message *m, uint8_t *out)
+{
+    size_t size = way == ENCRYPT ? m->length : m->length - 8;
+    uint8_t chain[16], block[16];
+    bytewise_expand(&cipher_key, key, length);
+    for (size_t i = 0; i < size; i++) {
+        if (i % 16 == 0)
+            numbered(block, 1, m->nonce, i / 16 + 1), bytewise_encrypt(&cipher_key, block, block);
+        out[i] = m->text[i] ^ block[i % 16];
+    }
+    numbered(chain, m->ad_length ? 0x59 : 0x19, m->nonce, size);
+    bytewise_encrypt(&cipher_key, chain, chain);
+    if (m->ad_length) {
+        chain[0] ^= (uint8_t)(m->ad_length >> 8), chain[1] ^= (uint8_t)m->ad_length;
+        absorb(chain, 2, m->ad, m->ad_length);
+    }
+    absorb(chain, 0, way == ENCRYPT ? m->text : out, size);
+    numbered(block, 1, m->nonce, 0);
+    bytewise_encrypt(&cipher_key, block, block);
+    add(chain, chain, block);
+    if (way == ENCRYPT)
+        memcpy(out + size, chain, 8);
+    else
+        must(memcmp(m->text + size, chain, 8) == 0, "byte-wise: tag");
+}
+
+const peer bytewise_peer = {"byte-wise C", set, run, lone, set_check, check, ccm};

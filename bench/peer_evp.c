@@ -56,4 +56,29 @@ static void check(const uint8_t *message, size_t length, uint8_t *out)
     openssl_peer.check(message, length, out);
 }
 
-const peer evp_peer = {"OpenSSL, EVP", set, run, lone, set_check, check};
+static EVP_CIPHER_CTX *ccm_context(size_t length, int way)
+{
+    static EVP_CIPHER_CTX *made[2][WAYS];
+    EVP_CIPHER_CTX **slot = &made[length == 32][way];
+    if (!*slot) {
+        EVP_CIPHER *cipher = EVP_CIPHER_fetch(NULL, length == 32 ? "AES-256-CCM" : "AES-128-CCM", NULL);
+        *slot = EVP_CIPHER_CTX_new();
+        must(cipher && *slot && EVP_CipherInit_ex2(*slot, cipher, NULL, NULL, way == ENCRYPT, NULL) &&
+                 EVP_CIPHER_CTX_ctrl(*slot, EVP_CTRL_AEAD_SET_IVLEN, 13, NULL), "OpenSSL: CCM");
+    }
+    return *slot;
+}
+
+void evp_ccm(int way, const uint8_t *key, size_t length, const message *m, uint8_t *out)
+{
+    EVP_CIPHER_CTX *c = ccm_context(length, way);
+    int size = (int)(way == ENCRYPT ? m->length : m->length - 8), made;
+    uint8_t *tag = way == ENCRYPT ? NULL : (uint8_t *)m->text + size;
+    must(EVP_CIPHER_CTX_ctrl(c, EVP_CTRL_AEAD_SET_TAG, 8, tag) && EVP_CipherInit_ex2(c, NULL, key, m->nonce, -1, NULL) &&
+             EVP_CipherUpdate(c, NULL, &made, NULL, size) && EVP_CipherUpdate(c, NULL, &made, m->ad, (int)m->ad_length) &&
+             EVP_CipherUpdate(c, out, &made, m->text, size) && made == size, "OpenSSL: CCM");
+    if (way == ENCRYPT)
+        must(EVP_CIPHER_CTX_ctrl(c, EVP_CTRL_AEAD_GET_TAG, 8, out + size), "OpenSSL: tag");
+}
+
+const peer evp_peer = {"OpenSSL, EVP", set, run, lone, set_check, check, evp_ccm};

@@ -2,6 +2,7 @@
 #include "peers.h"
 
 #include <nettle/cbc.h>
+#include <nettle/ccm.h>
 #include <nettle/cfb.h>
 #include <nettle/cmac.h>
 #include <nettle/memxor.h>
@@ -82,4 +83,14 @@ static void check(const uint8_t *message, size_t length, uint8_t *out)
     mac->digest(&check_key, 16, out);
 }
 
-const peer nettle_peer = {"nettle", set, run, lone, set_check, check};
+static void ccm(int way, const uint8_t *key, size_t length, const message *m, uint8_t *out)
+{
+    set(CBC, ENCRYPT, key, length);
+    if (way == ENCRYPT)
+        ccm_encrypt_message(&keys[ENCRYPT], cipher->encrypt, 13, m->nonce, m->ad_length, m->ad, 8, m->length + 8, out, m->text);
+    else
+        must(ccm_decrypt_message(&keys[ENCRYPT], cipher->encrypt, 13, m->nonce, m->ad_length, m->ad, 8, m->length - 8, out, m->text),
+             "nettle: ccm");
+}
+
+const peer nettle_peer = {"nettle", set, run, lone, set_check, check, ccm};

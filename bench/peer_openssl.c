@@ -71,4 +71,4 @@ static void check(const uint8_t *message, size_t length, uint8_t *out)
     must(CMAC_Init(mac, NULL, 0, NULL, NULL) && CMAC_Update(mac, message, length) && CMAC_Final(mac, out, &made), "OpenSSL: CMAC");
 }
 
-const peer openssl_peer = {"OpenSSL, AES_*", set, run, lone, set_check, check};
+const peer openssl_peer = {"OpenSSL, AES_*", set, run, lone, set_check, check, evp_ccm};

@@ -95,4 +95,15 @@ static void check(const uint8_t *message, size_t length, uint8_t *out)
     must(omac_process(&omac, message, length) == CRYPT_OK && omac_done(&omac, out, &room) == CRYPT_OK, "libtomcrypt: omac");
 }
 
-const peer tomcrypt_peer = {"libtomcrypt", set, run, lone, set_check, check};
+static void ccm(int way, const uint8_t *key, size_t length, const message *m, uint8_t *out)
+{
+    size_t size = way == ENCRYPT ? m->length : m->length - 8;
+    uint8_t *text = (uint8_t *)m->text;
+    unsigned long tag = 8;
+    ready();
+    must(ccm_memory(enc_only, key, length, NULL, m->nonce, 13, m->ad, m->ad_length, way == ENCRYPT ? text : out, size,
+                    way == ENCRYPT ? out : text, (way == ENCRYPT ? out : text) + size, &tag,
+                    way == ENCRYPT ? CCM_ENCRYPT : CCM_DECRYPT) == CRYPT_OK, "libtomcrypt: ccm");
+}
+
+const peer tomcrypt_peer = {"libtomcrypt", set, run, lone, set_check, check, ccm};

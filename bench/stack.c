@@ -218,6 +218,28 @@ static void on_saes_decrypt(void)
     seen(s.third == 0x2726);
 }
 
+static const size_t messages[] = {0, 1, 16, 17, 1023, 1024}, datas[] = {0, 1, 14, 15, 64};
+enum { MESSAGES = sizeof messages / sizeof messages[0], DATAS = sizeof datas / sizeof datas[0] };
+
+static void on_ccm_seal(void)
+{
+    for (int i = 0; i < MESSAGES * DATAS; i++) {
+        uint32_t a = ON(dock_ccm_seal)(key, key_length, input, 13, input, datas[i % DATAS], input, messages[i / DATAS], output, LONG);
+        seen(a == 0);
+    }
+}
+
+static void on_ccm_open(void)
+{
+    uint8_t sealed[1032];
+    for (int i = 0; i < MESSAGES * DATAS; i++) {
+        size_t length = messages[i / DATAS], ad = datas[i % DATAS];
+        dock_ccm_seal(key, key_length, input, 13, input, ad, input, length, sealed, sizeof sealed);
+        uint32_t a = ON(dock_ccm_open)(key, key_length, input, 13, input, ad, sealed, length + 8, output, LONG);
+        seen(a == 0);
+    }
+}
+
 // What a caller pushes before the call: structs by value of more than 16 bytes, and whatever comes after six numbers or pointers.
 // A result of more than 16 bytes goes where the caller has room for it.
 static const struct {
@@ -250,6 +272,8 @@ static const struct {
     {"dock_view_check", on_view_check, 0, sizeof(dock_view_answer)},
     {"dock_saes_encrypt", on_saes_encrypt, 0, 0},
     {"dock_saes_decrypt", on_saes_decrypt, 0, 0},
+    {"dock_ccm_seal", on_ccm_seal, 32, 0},
+    {"dock_ccm_open", on_ccm_open, 32, 0},
 };
 
 // Two colours, since a byte that a call happens to write in the first shows in the second.

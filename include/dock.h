@@ -1,5 +1,5 @@
-// The library's calls for C and C++: AES, its modes, the check (CMAC), release images and views of them, the key wrap, and the bench
-// model for apprentices.
+// The library's calls for C and C++: AES, its modes, the check (CMAC), release images and views of them, the key wrap, messages sealed
+// in CCM, and the bench model for apprentices.
 //
 // Building and linking. `rt staticlib dock` proves the library and writes target/staticlib/libdock.a, for x86-64 Linux. It has every
 // call below, and uses memcpy and memset and nothing else: no heap, no file, no memory of its own that is written. So calls may run in
@@ -59,7 +59,9 @@ enum {
     DOCK_NOT_COMPLETE = 17,       // the last block has not been accepted
     DOCK_WRAP_LENGTH = 18,        // the data has a wrong length: 16 to 64 bytes are wrapped, 24 to 72 unwrapped, each a multiple of 8
     DOCK_INITIAL_VALUE = 19,      // the data was not wrapped under this key
-    DOCK_NOT_BELOW_COUNT = 20     // a place or number is not below the count
+    DOCK_NOT_BELOW_COUNT = 20,    // a place or number is not below the count
+    DOCK_CCM_LENGTH = 23,         // a length is outside the profile: nonce 13 bytes, associated data up to 64, message up to 1,024, tag 8
+    DOCK_CCM_TAG = 24             // the tag is wrong: not sealed so under this key, nonce and associated data
 };
 
 // Sizes of release images, in bytes, and the most blocks that a turn may be asked for and an image may have.
@@ -278,6 +280,20 @@ uint32_t dock_wrap(const uint8_t *key, size_t key_length, const uint8_t *data, s
 // to be a wrapping under this key. The answer is 0 or the first that applies of 1, 18, 4, 19.
 uint32_t dock_unwrap(const uint8_t *key, size_t key_length, const uint8_t *data, size_t data_length,
                      uint8_t *output, size_t output_length);
+
+// ---- Messages in CCM of SP 800-38C: a nonce of 13 bytes, a tag of 8, up to 64 bytes of associated data and 1,024 of message
+
+// Seals a message: the ciphertext and then the tag, 8 bytes more than the message, go into the front of the output. No nonce may be
+// used twice under one key: docs/MESSAGES.md says how to make them. The answer is 0 or the first that applies of 1, 23, 4.
+uint32_t dock_ccm_seal(const uint8_t *key, size_t key_length, const uint8_t *nonce, size_t nonce_length,
+                       const uint8_t *ad, size_t ad_length, const uint8_t *message, size_t message_length,
+                       uint8_t *output, size_t output_length);
+
+// Opens what was sealed, ciphertext and tag, 8 to 1,032 bytes; the message, 8 bytes shorter, goes into the front of the output once
+// the tag is known to be right. The answer is 0 or the first that applies of 1, 23, 4, 24.
+uint32_t dock_ccm_open(const uint8_t *key, size_t key_length, const uint8_t *nonce, size_t nonce_length,
+                       const uint8_t *ad, size_t ad_length, const uint8_t *sealed, size_t sealed_length,
+                       uint8_t *output, size_t output_length);
 
 // ---- Simplified AES, the bench model for apprentices: 16-bit keys and blocks, no secrets. docs/APPRENTICE.md has it step by step.
 

@@ -1,5 +1,5 @@
-//! AES, its modes, the check (CMAC), release images and views of them, the key wrap and the bench model for apprentices: safe calls
-//! over the C exports of a library in which every function is proved.
+//! AES, its modes, the check (CMAC), release images and views of them, the key wrap, messages in CCM and the bench model for
+//! apprentices: safe calls over the C exports of a library in which every function is proved.
 //!
 //! Every call ends, and every input has one answer: a result, or a [`Refusal`] with the number that `docs/REFUSALS.md` explains.
 //! A refused call leaves its output and whatever it is called on as they were, and no call changes a byte of an output past its
@@ -43,6 +43,7 @@
 #![no_std]
 #![deny(missing_docs, unsafe_op_in_unsafe_fn)]
 
+mod ccm;
 mod check;
 mod cipher;
 mod image;
@@ -54,6 +55,7 @@ mod view;
 mod wipe;
 mod wrap;
 
+pub use ccm::{ccm_open, ccm_seal};
 pub use check::{check, verify, Check};
 pub use cipher::{decrypt, encrypt, product, schedule, Schedule};
 pub use image::{write, Numbers, Reader, Stop, Turn};

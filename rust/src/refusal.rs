@@ -46,6 +46,10 @@ pub enum Refusal {
     InitialValue,
     /// 20: a place or number is not below the count.
     NotBelowCount,
+    /// 23: a length is outside the profile: nonce 13 bytes, associated data up to 64, message up to 1,024, and a tag of 8 behind it.
+    CcmLength,
+    /// 24: the tag is wrong: not sealed so under this key, nonce and associated data.
+    CcmTag,
     /// A number that this edition of the wrapper has no name for.
     Other(u32),
 }
@@ -54,6 +58,7 @@ use Refusal::*;
 
 /// Each with its number and what it says. No call answers 11.
 const NAMED: [(u32, Refusal, &str); 19] = [
+const NAMED: [(u32, Refusal, &str); 20] = [
     (1, KeyLength, "a key is not 16, 24 or 32 bytes"),
     (2, IvLength, "the IV has a wrong length for the mode"),
     (3, InputLength, "the input is not a multiple of 16 bytes"),
@@ -89,6 +94,8 @@ const NAMED: [(u32, Refusal, &str); 19] = [
         NotBelowCount,
         "a place or number is not below the count",
     ),
+    (23, CcmLength, "a length is outside the profile"),
+    (24, CcmTag, "the tag is wrong"),
 ];
 
 impl Refusal {

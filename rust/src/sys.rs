@@ -178,6 +178,20 @@ pub type ChainCall = unsafe extern "C" fn(
 /// One of the two calls of the key wrap: key, data and output, each with its length.
 pub type WrapCall = unsafe extern "C" fn(*const u8, usize, *const u8, usize, *mut u8, usize) -> u32;
 
+/// One of the two calls of CCM: key, nonce, associated data, input and output, each with its length.
+pub type CcmCall = unsafe extern "C" fn(
+    *const u8,
+    usize,
+    *const u8,
+    usize,
+    *const u8,
+    usize,
+    *const u8,
+    usize,
+    *mut u8,
+    usize,
+) -> u32;
+
 #[rustfmt::skip]
 extern "C" {
     pub fn dock_product(a: u8, b: u8) -> u8;
@@ -247,4 +261,14 @@ extern "C" {
 
     pub fn dock_saes_encrypt(key: u16, block: u16) -> States;
     pub fn dock_saes_decrypt(key: u16, block: u16) -> States;
+    pub fn dock_ccm_seal(
+        key: *const u8, key_length: usize, nonce: *const u8, nonce_length: usize,
+        ad: *const u8, ad_length: usize, message: *const u8, message_length: usize,
+        output: *mut u8, output_length: usize,
+    ) -> u32;
+    pub fn dock_ccm_open(
+        key: *const u8, key_length: usize, nonce: *const u8, nonce_length: usize,
+        ad: *const u8, ad_length: usize, sealed: *const u8, sealed_length: usize,
+        output: *mut u8, output_length: usize,
+    ) -> u32;
 }

@@ -19,6 +19,7 @@
 //! - Each answer is written out when its line has been read, before the next one is.
 
 use crate::aes::{Block, KeySchedule};
+use crate::ccm;
 use crate::cmac::{self, RunningCheck};
 use crate::field;
 use crate::hex;
@@ -121,6 +122,8 @@ impl Console {
             (b"view-check", [image, place]) => view_call(image, place, |view, at| view.check(at)),
             (b"saes-encrypt", [key, block]) => apprentice(Saes::encrypt, key, block),
             (b"saes-decrypt", [key, block]) => apprentice(Saes::decrypt, key, block),
+            (b"ccm-seal", words) => ccm_call(ccm::seal, words),
+            (b"ccm-open", words) => ccm_call(ccm::open, words),
             (name, [key, iv, input, output]) => mode_call(name, key, iv, input, output),
             _ => None,
         }
@@ -274,6 +277,19 @@ fn apprentice(way: fn(&Saes, u16) -> States, key: &[u8], block: &[u8]) -> Option
         u16::from_be_bytes(block),
     );
     Some(format!("0 {first:04x} {second:04x} {third:04x}"))
+}
+
+type CcmCall = fn(&[u8], &[u8], &[u8], &[u8], &mut [u8]) -> Result<(), Refusal>;
+
+fn ccm_call(call: CcmCall, words: &[&[u8]]) -> Option<String> {
+    let [key, nonce, ad, input, output] = words else {
+        return None;
+    };
+    let (key, nonce) = (hex::read(key)?, hex::read(nonce)?);
+    let (ad, input) = (hex::read(ad)?, hex::read(input)?);
+    let mut output = hex::read(output)?;
+    let result = call(&key, &nonce, &ad, &input, &mut output);
+    Some(format!("{} {}", number_of(&result), hex::shown(&output)))
 }
 
 /// Everything that a turn answers before its output.

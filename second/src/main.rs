@@ -1,7 +1,8 @@
-//! An independent second program for the cipher, its modes, the check, release images and views of them, the key wrap and the bench model
-//! for apprentices.
+//! An independent second program for the cipher, its modes, the check, release images and views of them, the key wrap, messages in CCM and
+//! the bench model for apprentices.
 
 mod aes;
+mod ccm;
 mod cmac;
 mod console;
 mod field;
@@ -22,7 +23,7 @@ use std::path::Path;
 use std::process::ExitCode;
 use std::str::FromStr;
 
-const USAGE: &str = "usage: second console | second list | second seal KEYS RELEASE [EDITION] \
+const USAGE: &str = "usage: second console | second list | second ccm | second seal KEYS RELEASE [EDITION] \
                      | second random SEED COUNT [CALL,CALL...] | second listings SEED DIR | second turns SEED DIR | second blocks KEY..";
 
 fn main() -> ExitCode {
@@ -45,6 +46,7 @@ fn run(words: &[&str]) -> Result<(), String> {
     let done = match words {
         ["console"] => console::serve(&mut io::stdin().lock(), &mut io::stdout().lock()),
         ["list"] => list(),
+        ["ccm"] => ccm::serve(&mut io::stdin().lock(), &mut io::stdout().lock()),
         ["seal", keys, release] => seal(Path::new(keys), number(release)?, 1)?,
         ["seal", keys, release, edition] => {
             seal(Path::new(keys), number(release)?, number(edition)?)?

@@ -2,6 +2,7 @@
 
 mod calls;
 pub mod listings;
+mod messages;
 mod plan;
 mod rng;
 mod spoil;
@@ -192,10 +193,12 @@ mod tests {
     }
 
     #[test]
-    fn most_wraps_are_carried_out_and_every_refusal_of_them_is_met() {
+    fn most_wraps_and_messages_are_carried_out_and_every_refusal_of_them_is_met() {
         for (call, numbers) in [
             ("wrap", &["1", "18", "4"][..]),
             ("unwrap", &["1", "18", "4", "19"]),
+            ("ccm-seal", &["1", "23", "4"]),
+            ("ccm-open", &["1", "23", "4", "24"]),
         ] {
             let mut console = Console::default();
             let lines = drawn(4, Some(call));

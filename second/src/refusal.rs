@@ -21,6 +21,8 @@ pub enum Refusal {
     WrapLength = 18,
     InitialValue = 19,
     NotBelowCount = 20,
+    CcmLength = 23,
+    CcmTag = 24,
 }
 
 impl Refusal {

@@ -26,6 +26,8 @@ static dock_reader reader;
 typedef uint32_t mode_call(const uint8_t *, size_t, const uint8_t *, size_t, const uint8_t *, size_t, uint8_t *, size_t);
 typedef dock_chain_answer chain_call(const uint8_t *, size_t, const uint8_t *, size_t, const uint8_t *, size_t, uint8_t *, size_t);
 typedef uint32_t wrap_call(const uint8_t *, size_t, const uint8_t *, size_t, uint8_t *, size_t);
+typedef uint32_t ccm_call(const uint8_t *, size_t, const uint8_t *, size_t, const uint8_t *, size_t, const uint8_t *, size_t,
+                          uint8_t *, size_t);
 typedef dock_block_answer block_call(const uint8_t *, size_t, dock_block);
 typedef dock_view_answer view_call(size_t, size_t);
 typedef dock_states states_call(uint16_t, uint16_t);
@@ -40,6 +42,7 @@ struct form {
         mode_call *mode;
         chain_call *chain;
         wrap_call *wrap;
+        ccm_call *ccm;
         block_call *block;
         view_call *view;
         states_call *states;
@@ -300,6 +303,15 @@ static bool apprentice(const form *f, const word *w) {
     return true;
 }
 
+static bool ccm(const form *f, const word *w) {
+    const lent *key = input(w[0]), *nonce = input(w[1]), *ad = input(w[2]), *in = input(w[3]), *out = output(w[4]);
+    if (!key || !nonce || !ad || !in || !out) return false;
+    put_number(f->call.ccm(key->bytes, key->length, nonce->bytes, nonce->length, ad->bytes, ad->length, in->bytes, in->length,
+                           out->bytes, out->length));
+    put_bytes(out->bytes, out->length);
+    return true;
+}
+
 static const form forms[] = {
     {"product", 2, product, {NULL}},
     {"schedule", 1, schedule, {NULL}},
@@ -326,6 +338,8 @@ static const form forms[] = {
     {"view-check", 2, view, {.view = dock_view_check}},
     {"saes-encrypt", 2, apprentice, {.states = dock_saes_encrypt}},
     {"saes-decrypt", 2, apprentice, {.states = dock_saes_decrypt}},
+    {"ccm-seal", 5, ccm, {.ccm = dock_ccm_seal}},
+    {"ccm-open", 5, ccm, {.ccm = dock_ccm_open}},
 };
 
 static const form *form_named(word name) {

@@ -1,4 +1,4 @@
-// Faults planted on purpose: a driver linked with these in place of eleven calls must stop, or answer otherwise than the second program.
+// Faults planted on purpose: a driver linked with these in place of thirteen calls must stop, or answer otherwise than the second program.
 // The linker puts __wrap_CALL in the place of CALL (--wrap) and leaves the library's own as __real_CALL; FAULT in the environment
 // says which fault is made, and without it there is none.
 #include <stdlib.h>
@@ -17,6 +17,10 @@ static void flip(const uint8_t *byte) {
 dock_chain_answer __real_dock_ofb(const uint8_t *, size_t, const uint8_t *, size_t, const uint8_t *, size_t, uint8_t *, size_t);
 uint32_t __real_dock_wrap(const uint8_t *, size_t, const uint8_t *, size_t, uint8_t *, size_t);
 uint32_t __real_dock_unwrap(const uint8_t *, size_t, const uint8_t *, size_t, uint8_t *, size_t);
+uint32_t __real_dock_ccm_seal(const uint8_t *, size_t, const uint8_t *, size_t, const uint8_t *, size_t, const uint8_t *, size_t,
+                              uint8_t *, size_t);
+uint32_t __real_dock_ccm_open(const uint8_t *, size_t, const uint8_t *, size_t, const uint8_t *, size_t, const uint8_t *, size_t,
+                              uint8_t *, size_t);
 dock_check_answer __real_dock_check(const uint8_t *, size_t, const uint8_t *, size_t);
 dock_block_answer __real_dock_decrypt(const uint8_t *, size_t, dock_block);
 dock_block_answer __real_dock_encrypt(const uint8_t *, size_t, dock_block);
@@ -106,4 +110,26 @@ dock_states __wrap_dock_saes_decrypt(uint16_t key, uint16_t block) {
     dock_states states = __real_dock_saes_decrypt(key, block);
     if (made(12)) states.second ^= 1;
     return states;
+}
+
+// 13: the byte behind the tag.
+// 14: the last byte of the tag.
+uint32_t __wrap_dock_ccm_seal(const uint8_t *key, size_t key_length, const uint8_t *nonce, size_t nonce_length,
+                              const uint8_t *ad, size_t ad_length, const uint8_t *message, size_t message_length,
+                              uint8_t *output, size_t output_length) {
+    uint32_t number = __real_dock_ccm_seal(key, key_length, nonce, nonce_length, ad, ad_length, message, message_length, output,
+                                           output_length);
+    if (made(13) && number == DOCK_DONE && message_length + 8 < output_length) flip(output + message_length + 8);
+    if (made(14) && number == DOCK_DONE) flip(output + message_length + 7);
+    return number;
+}
+
+// 15: the output of a call that was refused because of the tag.
+uint32_t __wrap_dock_ccm_open(const uint8_t *key, size_t key_length, const uint8_t *nonce, size_t nonce_length,
+                              const uint8_t *ad, size_t ad_length, const uint8_t *sealed, size_t sealed_length,
+                              uint8_t *output, size_t output_length) {
+    uint32_t number = __real_dock_ccm_open(key, key_length, nonce, nonce_length, ad, ad_length, sealed, sealed_length, output,
+                                           output_length);
+    if (made(15) && number == DOCK_CCM_TAG && output_length > 0) flip(output);
+    return number;
 }

@@ -1,10 +1,10 @@
 -- A run that is fed by parts, the two ways in which it is fed, and ciphers that agree on blocks. Assumes nothing.
 use mathlib.Core.Path.{_≡_, refl, sym, ap, ap₂, _∙_}
 use mathlib.Core.List.{List, [], _++_}
-use Prim.Native.Nat.{ℕ, suc, _+_, _-_, _*_, _≤_, _<_}
+use Prim.Native.Nat.{ℕ, suc, _+_, _-_, _*_, _/_, _≤_, _<_}
 use native.Mathlib.Omega.{arith}
-use lib.ListN.{length, take, drop, replicate, length-append, length-drop, length-take}
-use lib.Seq.{drop-append-le, take-append-seam, drop-drop, drop-append-add}
+use lib.ListN.{length, take, drop, replicate, length-append, length-drop, length-take, take-append-drop}
+use lib.Seq.{length-take-le, drop-append-le, take-append-seam, drop-drop, drop-append-add}
 use Rattle.octets.specs.Octets.{padTo, Bytes, Octets}
 use Rattle.octets.specs.Blocks.{_⊕_, BlockCipher}
 use Rattle.octets.proofs.Blocks.{take-bytes, append-bytes}
@@ -107,6 +107,14 @@ module _ (held : List ℕ) (size : length held ≡ 16) (c : BlockCipher) (st : L
       ∙ ap₂ (λ (x y : List ℕ). runFrom c (c .enc (st ⊕ x)) y) (sym (piece-full (p ++ part) (omega (arith, held-length held size count)))) d)
 
 -- ---- a run that held nothing
+
+-- the chain over n whole pieces, cut off behind them
+pub chained-part : (c : BlockCipher) (st part : List ℕ) (n m : ℕ) → n * 16 ≤ length part → m ≡ n * 16 → chained c st (length (take m part) / 16) (take m part) ≡ chained c st n part
+chained-part c st part n m h e =
+    let t = take m part in
+    let l : length t ≡ n * 16 = length-take-le m part (omega arith) ∙ e in
+    let k : length t / 16 ≡ n = omega arith in
+    ap (λ (i : ℕ). chained c st i t) k ∙ sym (chained-front c n st t (drop m part) (omega arith)) ∙ ap (chained c st n) (take-append-drop m part)
 
 pub taken-holding : (c : BlockCipher) (st part : List ℕ) (n : ℕ) (value rest held : List ℕ) → n ≡ beforeLast part → value ≡ chained c st n part → rest ≡ drop (n * 16) part
     → held ≡ piece rest → _≡_ {A = Run} (record { chain = value; held = held; count = length rest }) (runFrom c st part)

@@ -1,14 +1,11 @@
 // The running check: what is fed goes into the chain piece by piece, but for the last piece, which is held until more comes.
-mod chain;
-
-use crate::chain::before_last;
-use crate::chain::chained;
 use aes_rounds::encrypt_block;
+use cmac_chain::chained;
 use cmac_subkeys::last;
 use cmac_subkeys::piece_filled;
 use octets_block::xor;
 ghost use mathlib.Core.Path.{_≡_};
-ghost use Prim.Native.Nat.{_-_};
+ghost use Prim.Native.Nat.{_-_, _/_};
 ghost use Rattle.aes_spec.specs.Cipher.{standard};
 ghost use Rattle.cmac_run.specs.Model as running;
 
@@ -71,8 +68,9 @@ fn run_from(words: &[u32; 60], rounds: usize, chain: [u8; 16], part: &[u8]) -> R
     ensures { λ r. ⌜ r ≡ running.runFrom (standard (now (words .entry)) rounds) chain (now (part .entry)) ⌝ }
 {
     let n = before_last(part.len());
-    let after = chained(words, rounds, chain, n, part);
-    let rest = &part[n * 16..];
+    let at = n * 16;
+    let after = chained(words, rounds, chain, &part[0..at]);
+    let rest = &part[at..];
     let held = piece_filled([0u8; 16], 0, rest);
     Run {
         chain: after,
@@ -89,4 +87,14 @@ fn room_after(count: usize) -> usize
         return 16 - count;
     }
     0
+}
+
+// How many pieces of a message of this length come before its last one.
+fn before_last(length: usize) -> usize
+    ensures { λ r. ⌜ r ≡ (length - 1) / 16 ⌝ }
+{
+    if length == 0 {
+        return 0;
+    }
+    (length - 1) / 16
 }

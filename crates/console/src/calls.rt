@@ -5,6 +5,7 @@ use crate::checked;
 use crate::held::Held;
 use crate::imaged;
 use crate::moded;
+use crate::sealed;
 use crate::simplified;
 use crate::viewed;
 use crate::wrapped;
@@ -13,12 +14,13 @@ use basic::BasicCall;
 use checked::CheckCall;
 use imaged::ImageCall;
 use modes_spec::Operation;
+use sealed::CcmCall;
 use simplified::SimplifiedCall;
 use viewed::ViewCall;
 use wrapped::WrapCall;
 
 // A row has the name of a call, and from its place 20 on the form of its line: the letters are in args.rt.
-const ROWS: [[u8; 30]; 25] = [
+const ROWS: [[u8; 30]; 27] = [
     *b"product             .11       ",
     *b"schedule            .x        ",
     *b"encrypt             .xb       ",
@@ -44,6 +46,8 @@ const ROWS: [[u8; 30]; 25] = [
     *b"view-check          .xw       ",
     *b"saes-encrypt        .22       ",
     *b"saes-decrypt        .22       ",
+    *b"ccm-seal            .xxxxo    ",
+    *b"ccm-open            .xxxxo    ",
 ];
 
 pub enum Call {
@@ -55,6 +59,7 @@ pub enum Call {
     Wrapped(WrapCall),
     Viewed(ViewCall),
     Simplified(SimplifiedCall),
+    Sealed(CcmCall),
     Unknown,
 }
 
@@ -86,19 +91,21 @@ fn call_at(k: usize) -> Call {
         22 => Call::Viewed(ViewCall::ViewCheck),
         23 => Call::Simplified(SimplifiedCall::Encrypt),
         24 => Call::Simplified(SimplifiedCall::Decrypt),
+        25 => Call::Sealed(CcmCall::Seal),
+        26 => Call::Sealed(CcmCall::Open),
         _ => Call::Unknown,
     }
 }
 
 // No line has the form of a row past the last, since that asks for no word at all.
 fn row(k: usize) -> [u8; 30] {
-    if k < 25 { ROWS[k] } else { [32; 30] }
+    if k < 27 { ROWS[k] } else { [32; 30] }
 }
 
-// The row that has a word for its name, or 25.
+// The row that has a word for its name, or 27.
 fn row_of(w: &[u8]) -> usize {
     let mut k: usize = 0;
-    while k < 25 {
+    while k < 27 {
         if has_name(row(k), w) {
             return k;
         }
@@ -135,6 +142,7 @@ fn made(call: Call, held: Held, ins: &[u8], a: Args, outs: &mut [u8], text: &mut
         Call::Wrapped(c) => held.at(wrapped::answer(c, ins, a, outs, text, at)),
         Call::Viewed(c) => held.at(viewed::answer(c, ins, a, text, at)),
         Call::Simplified(c) => held.at(simplified::answer(c, ins, a, text, at)),
+        Call::Sealed(c) => held.at(sealed::answer(c, ins, a, outs, text, at)),
         Call::Unknown => held,
     }
 }

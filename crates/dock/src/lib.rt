@@ -27,6 +27,8 @@ ghost use Rattle.image_view.specs.Views as views;
 ghost use Rattle.wrap_answer.specs.Answers.{wrapNumber};
 ghost use Rattle.wrap.specs.Calls.{wrapAnswer, wrapOutput, unwrapAnswer, unwrapOutput};
 ghost use Rattle.saes_spec.specs.Saes.{encrypted, decrypted};
+ghost use Rattle.ccm_answer.specs.Answers.{ccmNumber};
+ghost use Rattle.ccm.specs.Calls.{sealAnswer, sealOutput, openAnswer, openOutput};
 ghost use Rattle.dock.specs.Answers.{scheduleAnswer, blockAnswer, chainAnswer, modeApplied, afterMode, checkAnswer, startAnswer, closeAnswer, readStartAnswer, numbers};
 ghost use Rattle.dock_turn.specs.Answers.{turnAnswer};
 
@@ -339,6 +341,36 @@ pub extern "C" fn dock_saes_decrypt(key: u16, block: u16) -> States
     ensures { λ r. ⌜ r ≡ decrypted key block ⌝ }
 {
     saes::decrypt(key, block)
+}
+
+#[no_mangle]
+pub extern "C" fn dock_ccm_seal(
+    key: &[u8],
+    nonce: &[u8],
+    ad: &[u8],
+    message: &[u8],
+    output: &mut [u8],
+) -> u32
+    ensures answer { λ r. ⌜ r ≡ ccmNumber (sealAnswer (now (key .entry)) (now (nonce .entry)) (now (ad .entry)) (now (message .entry)) (now (output .entry))) ⌝ }
+    ensures written { λ _. ⌜ now (output .exit) ≡ sealOutput (sealAnswer (now (key .entry)) (now (nonce .entry)) (now (ad .entry)) (now (message .entry)) (now (output .entry))) (now (key .entry)) (now (nonce .entry)) (now (ad .entry)) (now (message .entry)) (now (output .entry)) ⌝ }
+{
+    let answer = ccm::seal(key, nonce, ad, message, output);
+    answer.number()
+}
+
+#[no_mangle]
+pub extern "C" fn dock_ccm_open(
+    key: &[u8],
+    nonce: &[u8],
+    ad: &[u8],
+    sealed: &[u8],
+    output: &mut [u8],
+) -> u32
+    ensures answer { λ r. ⌜ r ≡ ccmNumber (openAnswer (now (key .entry)) (now (nonce .entry)) (now (ad .entry)) (now (sealed .entry)) (now (output .entry))) ⌝ }
+    ensures written { λ _. ⌜ now (output .exit) ≡ openOutput (openAnswer (now (key .entry)) (now (nonce .entry)) (now (ad .entry)) (now (sealed .entry)) (now (output .entry))) (now (key .entry)) (now (nonce .entry)) (now (ad .entry)) (now (sealed .entry)) (now (output .entry)) ⌝ }
+{
+    let answer = ccm::open(key, nonce, ad, sealed, output);
+    answer.number()
 }
 
 fn block_answer(c: Ciphered) -> BlockAnswer

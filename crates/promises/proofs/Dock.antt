@@ -24,6 +24,7 @@ use Rattle.image_reader_tally.specs.declared.Stop.{Stop}
 use Rattle.image_reader_tally.specs.declared.Stop.the-variants.{End, Asked, Lent, Room, At}
 use Rattle.image_reader.specs.declared.Turn.{Turn}
 use Rattle.wrap_answer.specs.Answers.{wrapNumber}
+use Rattle.ccm_answer.specs.Answers.{ccmNumber}
 use Rattle.dock.specs.Answers.{scheduleAnswer, blockAnswer, modeApplied, chainAnswer, afterMode, checkAnswer, startAnswer, closeAnswer, readStartAnswer, numbers}
 use Rattle.dock_turn.specs.Answers.{toldOf, turnAnswer}
 use Rattle.dock.specs.declared.ChainAnswer.{ChainAnswer}
@@ -34,6 +35,7 @@ use Rattle.promises.proofs.Image.Statements.{turn-refusal-keeps}
 use Rattle.promises.proofs.Modes.{apply-refused-keeps, apply-refused-zeros}
 use Rattle.promises.proofs.Image.Calls.{write-refused-keeps}
 use Rattle.promises.proofs.Wrap.Calls.{wrap-refused-keeps, unwrap-refused-keeps}
+use Rattle.promises.proofs.Ccm.Calls.{seal-refused-keeps, open-refused-keeps}
 use Rattle.field.proofs.product.Reads as product
 use Rattle.aes_schedule.proofs.KeySchedule.new.Reads as new
 use Rattle.aes.proofs.encrypt.Reads as encrypt
@@ -49,6 +51,8 @@ use Rattle.image_reader.proofs.read_turn.Reads as read-turn
 use Rattle.image_reader.proofs.read_complete.Reads as read-complete
 use Rattle.wrap.proofs.wrap.Reads as wrap
 use Rattle.wrap.proofs.unwrap.Reads as unwrap
+use Rattle.ccm.proofs.seal.Reads as seal
+use Rattle.ccm.proofs.open.Reads as open-call
 use Rattle.dock_turn.proofs.turn_answer.Reads as turn-answer
 use Rattle.dock.proofs.dock_product.Reads as dock-product
 use Rattle.dock.proofs.dock_schedule.Reads as dock-schedule
@@ -71,6 +75,8 @@ use Rattle.dock.proofs.dock_read_turn.Reads as dock-read-turn
 use Rattle.dock.proofs.dock_read_complete.Reads as dock-read-complete
 use Rattle.dock.proofs.dock_wrap.Reads as dock-wrap
 use Rattle.dock.proofs.dock_unwrap.Reads as dock-unwrap
+use Rattle.dock.proofs.dock_ccm_seal.Reads as dock-ccm-seal
+use Rattle.dock.proofs.dock_ccm_open.Reads as dock-ccm-open
 
 -- ---- an export is the call below it
 
@@ -414,3 +420,31 @@ dock-unwrap-is-unwrap κs a r s p = (_, (refl, p .1), p .0)
 
 pub dock-unwrap-refused-keeps : (κs : _) (a : _) (r : _) (s : _) → dock-unwrap.Post κs a r s → (r ≡ 0 → ⊥) → now (s .1 .1 .0) ≡ now (a .1 .1 .0)
 dock-unwrap-refused-keeps κs a r s p h = refused-below (dock-unwrap-is-unwrap κs a r s p) (λ x b. unwrap-refused-keeps κs a x s b) h
+
+-- ---- CCM
+
+pub dock-ccm-seal-asks-nothing : (κs : _) (a : _) → dock-ccm-seal.Asked κs a
+dock-ccm-seal-asks-nothing κs a = tt
+
+pub dock-ccm-seal-determined : (κs : _) (a : _) (r r′ : _) (s s′ : _) → dock-ccm-seal.Post κs a r s → dock-ccm-seal.Post κs a r′ s′
+    → (r ≡ r′) × (now (s .1 .1 .1 .1 .0) ≡ now (s′ .1 .1 .1 .1 .0))
+dock-ccm-seal-determined κs a r r′ s s′ p q = (p .0 ∙ sym (q .0), p .1 ∙ sym (q .1))
+
+pub dock-ccm-seal-is-seal : (κs : _) (a : _) (r : _) (s : _) → dock-ccm-seal.Post κs a r s → AsBelow ccmNumber (λ x. seal.Post κs a x s) r
+dock-ccm-seal-is-seal κs a r s p = (_, (refl, p .1), p .0)
+
+pub dock-ccm-seal-refused-keeps : (κs : _) (a : _) (r : _) (s : _) → dock-ccm-seal.Post κs a r s → (r ≡ 0 → ⊥) → now (s .1 .1 .1 .1 .0) ≡ now (a .1 .1 .1 .1 .0)
+dock-ccm-seal-refused-keeps κs a r s p h = refused-below (dock-ccm-seal-is-seal κs a r s p) (λ x b. seal-refused-keeps κs a x s b) h
+
+pub dock-ccm-open-asks-nothing : (κs : _) (a : _) → dock-ccm-open.Asked κs a
+dock-ccm-open-asks-nothing κs a = tt
+
+pub dock-ccm-open-determined : (κs : _) (a : _) (r r′ : _) (s s′ : _) → dock-ccm-open.Post κs a r s → dock-ccm-open.Post κs a r′ s′
+    → (r ≡ r′) × (now (s .1 .1 .1 .1 .0) ≡ now (s′ .1 .1 .1 .1 .0))
+dock-ccm-open-determined κs a r r′ s s′ p q = (p .0 ∙ sym (q .0), p .1 ∙ sym (q .1))
+
+pub dock-ccm-open-is-open : (κs : _) (a : _) (r : _) (s : _) → dock-ccm-open.Post κs a r s → AsBelow ccmNumber (λ x. open-call.Post κs a x s) r
+dock-ccm-open-is-open κs a r s p = (_, (refl, p .1), p .0)
+
+pub dock-ccm-open-refused-keeps : (κs : _) (a : _) (r : _) (s : _) → dock-ccm-open.Post κs a r s → (r ≡ 0 → ⊥) → now (s .1 .1 .1 .1 .0) ≡ now (a .1 .1 .1 .1 .0)
+dock-ccm-open-refused-keeps κs a r s p h = refused-below (dock-ccm-open-is-open κs a r s p) (λ x b. open-refused-keeps κs a x s b) h

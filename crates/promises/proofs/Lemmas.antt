@@ -8,3 +8,4 @@ pub mod ImageOne
 pub mod ImageCalls
 pub mod ImageRead
 pub mod WrapLaws
+pub mod CcmLaws

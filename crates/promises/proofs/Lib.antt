@@ -5,6 +5,7 @@ pub mod Modes
 pub mod Cmac
 pub mod Wrap
 pub mod Saes
+pub mod Ccm
 pub mod Image
 pub mod Text
 pub mod Dock

@@ -52,11 +52,16 @@ use Rattle.wrap_answer.specs.declared.WrapAnswer.the-variants.{WrapDone, WrapKe
 use Rattle.wrap_answer.proofs.Pins.{wrap-numbers}
 use Rattle.image_view.specs.Views.{madeNumber, heldLength, shownNumber, answerOf}
 use Rattle.image_view.proofs.Pins as views
+use Rattle.ccm_answer.specs.Answers.{ccmNumber}
+use Rattle.ccm_answer.specs.declared.CcmAnswer.{CcmAnswer}
+use Rattle.ccm_answer.specs.declared.CcmAnswer.the-variants.{CcmDone, CcmKey, CcmSize, CcmRoom, WrongTag}
+use Rattle.ccm_answer.proofs.Pins.{ccm-numbers}
 use Rattle.dock_turn.specs.Answers.{toldOf}
 use Rattle.promises.proofs.Modes.{not-pieces-not-ofb}
 use Rattle.promises.proofs.Wrap.Calls.{wrap-as-told}
+use Rattle.promises.proofs.Ccm.Calls.{seal-as-told}
 use Rattle.promises.proofs.Image.Calls.{turn-is-the-readers}
-use Rattle.promises.proofs.Dock.{dock-schedule-is-new, dock-encrypt-is-encrypt, dock-decrypt-is-decrypt, dock-check-is-check, dock-check-start-is-start, dock-read-start-is-read-start, dock-ecb-encrypt-is-apply, dock-ecb-decrypt-is-apply, dock-cbc-encrypt-is-apply, dock-cbc-decrypt-is-apply, dock-cfb-encrypt-is-apply, dock-cfb-decrypt-is-apply, dock-ofb-is-apply, dock-write-is-write, dock-read-turn-is-read-turn, dock-read-complete-is-read-complete, dock-wrap-is-wrap, dock-unwrap-is-unwrap}
+use Rattle.promises.proofs.Dock.{dock-schedule-is-new, dock-encrypt-is-encrypt, dock-decrypt-is-decrypt, dock-check-is-check, dock-check-start-is-start, dock-read-start-is-read-start, dock-ecb-encrypt-is-apply, dock-ecb-decrypt-is-apply, dock-cbc-encrypt-is-apply, dock-cbc-decrypt-is-apply, dock-cfb-encrypt-is-apply, dock-cfb-decrypt-is-apply, dock-ofb-is-apply, dock-write-is-write, dock-read-turn-is-read-turn, dock-read-complete-is-read-complete, dock-wrap-is-wrap, dock-unwrap-is-unwrap, dock-ccm-seal-is-seal, dock-ccm-open-is-open}
 use Rattle.promises.proofs.Lemmas.ImageCalls.{by-turn, reading-le}
 use Rattle.aes_schedule.proofs.KeySchedule.new.Reads as new
 use Rattle.aes.proofs.encrypt.Reads as encrypt
@@ -76,6 +81,8 @@ use Rattle.image_view.proofs.made_number.Reads as made-number
 use Rattle.image_view.proofs.shown_number.Reads as shown-number
 use Rattle.image_view.proofs.block_answer.Reads as block-answer
 use Rattle.image_view.proofs.check_answer.Reads as check-answer
+use Rattle.ccm.proofs.seal.Reads as seal
+use Rattle.ccm.proofs.open.Reads as open-call
 use Rattle.dock.proofs.dock_schedule.Reads as dock-schedule
 use Rattle.dock.proofs.dock_encrypt.Reads as dock-encrypt
 use Rattle.dock.proofs.dock_decrypt.Reads as dock-decrypt
@@ -96,6 +103,8 @@ use Rattle.dock.proofs.dock_wrap.Reads as dock-wrap
 use Rattle.dock.proofs.dock_unwrap.Reads as dock-unwrap
 use Rattle.dock.proofs.dock_view_block.Reads as dock-view-block
 use Rattle.dock.proofs.dock_view_check.Reads as dock-view-check
+use Rattle.dock.proofs.dock_ccm_seal.Reads as dock-ccm-seal
+use Rattle.dock.proofs.dock_ccm_open.Reads as dock-ccm-open
 
 -- ---- the modes
 
@@ -160,7 +169,8 @@ pub the-numbers :
     × ((writeNumber Written ≡ 0) × (writeNumber WriteKey ≡ 1) × (writeNumber WriteRoom ≡ 4) × (writeNumber WriteCount ≡ 7) × (writeNumber WriteNumber ≡ 8) × (writeNumber WriteLength ≡ 12) × (writeNumber WriteEdition ≡ 13))
     × ((completionNumber Complete ≡ 0) × (completionNumber NotComplete ≡ 17))
     × ((wrapNumber WrapDone ≡ 0) × (wrapNumber WrapKey ≡ 1) × (wrapNumber WrapRoom ≡ 4) × (wrapNumber WrapSize ≡ 18) × (wrapNumber WrongInitial ≡ 19))
-the-numbers = (key-numbers, mode-numbers, stop-numbers, reasons.reason-numbers, reasons.verdict-numbers, write-numbers, completion-numbers, wrap-numbers)
+    × ((ccmNumber CcmDone ≡ 0) × (ccmNumber CcmKey ≡ 1) × (ccmNumber CcmRoom ≡ 4) × (ccmNumber CcmSize ≡ 23) × (ccmNumber WrongTag ≡ 24))
+the-numbers = (key-numbers, mode-numbers, stop-numbers, reasons.reason-numbers, reasons.verdict-numbers, write-numbers, completion-numbers, wrap-numbers, ccm-numbers)
 
 -- 7, 8, 9, 10, 12 and 13 hold the value found, 14, 15 and 16 none
 pub the-values : (v : ℕ)
@@ -173,6 +183,7 @@ the-values = reasons.reason-values
 -- the rows of 'Which comes first', and their numbers: the key schedule, one block, the whole check, the starts of a running check and of a
 -- reader (keyed); ECB, CBC and CFB (pieces); OFB; the writer; a turn, as a whole and then for each block; one block; completion; wrapping and
 -- unwrapping; making a view, and showing a block or its check
+-- unwrapping; sealing and opening a message
 pub data Row : Type 0 where
   keyed : Row
   pieces : Row
@@ -185,6 +196,8 @@ pub data Row : Type 0 where
   unwrapping : Row
   viewing : Row
   showing : Row
+  sealing : Row
+  opening : Row
 
 abbrev pub ofBlock : List ℕ
 ofBlock = 16 ∷ 14 ∷ 7 ∷ 8 ∷ 9 ∷ 10 ∷ 12 ∷ 13 ∷ 15 ∷ []
@@ -201,6 +214,8 @@ order wrapping = 1 ∷ 18 ∷ 4 ∷ []
 order unwrapping = 1 ∷ 18 ∷ 4 ∷ 19 ∷ []
 order viewing = 6 ∷ []
 order showing = 20 ∷ []
+order sealing = 1 ∷ 23 ∷ 4 ∷ []
+order opening = 1 ∷ 23 ∷ 4 ∷ 24 ∷ []
 
 -- some call of a row gives this number; of a turn as C and Rust link it, the number of the whole turn and the reason of a block stand apart
 pub data Gives : Row → ℕ → Type 0 where
@@ -225,6 +240,8 @@ pub data Gives : Row → ℕ → Type 0 where
   by-block-answer : (κs : _) (a : _) (r : _) (s : _) → block-answer.Post κs a r s → Gives showing (r .number)
   by-check-answer-made : (κs : _) (a : _) (r : _) (s : _) → check-answer.Post κs a r s → Gives viewing (r .made)
   by-check-answer : (κs : _) (a : _) (r : _) (s : _) → check-answer.Post κs a r s → Gives showing (r .number)
+  by-seal : (κs : _) (a : _) (r : _) (s : _) → seal.Post κs a r s → Gives sealing (ccmNumber r)
+  by-open : (κs : _) (a : _) (r : _) (s : _) → open-call.Post κs a r s → Gives opening (ccmNumber r)
   by-dock-schedule : (κs : _) (a : _) (r : _) (s : _) → dock-schedule.Post κs a r s → Gives keyed (r .number)
   by-dock-encrypt : (κs : _) (a : _) (r : _) (s : _) → dock-encrypt.Post κs a r s → Gives keyed (r .number)
   by-dock-decrypt : (κs : _) (a : _) (r : _) (s : _) → dock-decrypt.Post κs a r s → Gives keyed (r .number)
@@ -248,6 +265,8 @@ pub data Gives : Row → ℕ → Type 0 where
   by-dock-view-block : (κs : _) (a : _) (r : _) (s : _) → dock-view-block.Post κs a r s → Gives showing (r .number)
   by-dock-view-check-made : (κs : _) (a : _) (r : _) (s : _) → dock-view-check.Post κs a r s → Gives viewing (r .made)
   by-dock-view-check : (κs : _) (a : _) (r : _) (s : _) → dock-view-check.Post κs a r s → Gives showing (r .number)
+  by-dock-ccm-seal : (κs : _) (a : _) (r : _) (s : _) → dock-ccm-seal.Post κs a r s → Gives sealing r
+  by-dock-ccm-open : (κs : _) (a : _) (r : _) (s : _) → dock-ccm-open.Post κs a r s → Gives opening r
 
 -- a number is one of a list
 abbrev pub OneOf : List ℕ → ℕ → Type 0
@@ -382,6 +401,22 @@ of-view : (from size n place : ℕ) → (among (0 ∷ order viewing) (answerOf f
 unfolding answerOf
 of-view from size n place = (of-made n, of-shown (heldLength n) place)
 
+of-seal : (r : CcmAnswer) → (ccmNumber r ≡ 24 → ⊥) → among (0 ∷ order sealing) (ccmNumber r) ≡ true
+unfolding among
+of-seal CcmDone n = refl
+of-seal CcmKey n = refl
+of-seal CcmSize n = refl
+of-seal CcmRoom n = refl
+of-seal WrongTag n = absurd (n refl)
+
+of-open : (r : CcmAnswer) → among (0 ∷ order opening) (ccmNumber r) ≡ true
+unfolding among
+of-open CcmDone = refl
+of-open CcmKey = refl
+of-open CcmSize = refl
+of-open CcmRoom = refl
+of-open WrongTag = refl
+
 -- a call gives 0 or a number of its row, and no other
 pub no-call-gives-another : (c : Row) (n : ℕ) → Gives c n → OneOf (0 ∷ order c) n
 no-call-gives-another c n (by-schedule κs a r s p) = found _ _ (of-key (r .answer))
@@ -405,6 +440,8 @@ no-call-gives-another c n (by-block-answer-made κs a r s p) = found (0 ∷ orde
 no-call-gives-another c n (by-block-answer κs a r s p) = found (0 ∷ order showing) (r .number) (rw p (of-view 0 512 (a .0) (a .1 .0) .1))
 no-call-gives-another c n (by-check-answer-made κs a r s p) = found (0 ∷ order viewing) (r .made) (rw p (of-view 496 16 (a .0) (a .1 .0) .0))
 no-call-gives-another c n (by-check-answer κs a r s p) = found (0 ∷ order showing) (r .number) (rw p (of-view 496 16 (a .0) (a .1 .0) .1))
+no-call-gives-another c n (by-seal κs a r s p) = found _ _ (of-seal r (seal-as-told κs a r s p .1))
+no-call-gives-another c n (by-open κs a r s p) = found _ _ (of-open r)
 no-call-gives-another c n (by-dock-schedule κs a r s p) = let b = dock-schedule-is-new κs a r s p in found (0 ∷ order keyed) (r .number) (rw (b .2) (of-key (b .0 .answer)))
 no-call-gives-another c n (by-dock-encrypt κs a r s p) = let b = dock-encrypt-is-encrypt κs a r s p in found (0 ∷ order keyed) (r .number) (rw (b .2) (of-key (b .0 .answer)))
 no-call-gives-another c n (by-dock-decrypt κs a r s p) = let b = dock-decrypt-is-decrypt κs a r s p in found (0 ∷ order keyed) (r .number) (rw (b .2) (of-key (b .0 .answer)))
@@ -428,6 +465,8 @@ no-call-gives-another c n (by-dock-view-block-made κs a r s p) = found (0 ∷ o
 no-call-gives-another c n (by-dock-view-block κs a r s p) = found (0 ∷ order showing) (r .number) (rw p (of-view 0 512 (a .0) (a .1 .0) .1))
 no-call-gives-another c n (by-dock-view-check-made κs a r s p) = found (0 ∷ order viewing) (r .made) (rw p (of-view 496 16 (a .0) (a .1 .0) .0))
 no-call-gives-another c n (by-dock-view-check κs a r s p) = found (0 ∷ order showing) (r .number) (rw p (of-view 496 16 (a .0) (a .1 .0) .1))
+no-call-gives-another c n (by-dock-ccm-seal κs a r s p) = let b = dock-ccm-seal-is-seal κs a r s p in found (0 ∷ order sealing) r (rw (b .2) (of-seal (b .0) (seal-as-told κs a (b .0) s (b .1) .1)))
+no-call-gives-another c n (by-dock-ccm-open κs a r s p) = let b = dock-ccm-open-is-open κs a r s p in found (0 ∷ order opening) r (rw (b .2) (of-open (b .0)))
 
 no-11 : (c : Row) → among (0 ∷ order c) 11 ≡ false
 unfolding among
@@ -442,6 +481,8 @@ no-11 wrapping = refl
 no-11 unwrapping = refl
 no-11 viewing = refl
 no-11 showing = refl
+no-11 sealing = refl
+no-11 opening = refl
 
 -- and 11 is in no row
 pub no-call-gives-11 : (c : Row) → Gives c 11 → ⊥

@@ -1,5 +1,6 @@
 //! The calls that lines are drawn from. A new call is one row here and the words it takes.
 
+use super::messages::{open_words, seal_words};
 use super::plan::Plan;
 use super::rng::Rng;
 use super::views::view_words;
@@ -51,6 +52,8 @@ pub const CALLS: &[Call] = &[
     call("view-check", 2, view_words),
     call("saes-encrypt", 2, two_short_words),
     call("saes-decrypt", 2, two_short_words),
+    call("ccm-seal", 2, seal_words),
+    call("ccm-open", 3, open_words),
 ];
 
 pub struct Draw {

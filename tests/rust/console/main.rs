@@ -75,6 +75,8 @@ impl Console {
             (b"view-check", [image, place]) => view(|v, at| v.check(at), 496, image, place),
             (b"saes-encrypt", [key, block]) => apprentice(dock::saes_encrypt, key, block),
             (b"saes-decrypt", [key, block]) => apprentice(dock::saes_decrypt, key, block),
+            (b"ccm-seal", words) => ccm(dock::ccm_seal, words),
+            (b"ccm-open", words) => ccm(dock::ccm_open, words),
             _ => None,
         }
     }
@@ -233,6 +235,18 @@ fn apprentice(call: fn(u16, u16) -> [u16; 3], key: &[u8], block: &[u8]) -> Optio
     let states = call(u16::from_be_bytes(key), u16::from_be_bytes(block));
     let [first, second, third] = states.map(|state| hex(&state.to_be_bytes()));
     Some(format!("0 {first} {second} {third}"))
+}
+
+type Ccm = fn(&[u8], &[u8], &[u8], &[u8], &mut [u8]) -> Result<(), Refusal>;
+
+fn ccm(call: Ccm, words: &[&[u8]]) -> Option<String> {
+    let [key, nonce, ad, data, room] = words else {
+        return None;
+    };
+    let (key, nonce, ad, data) = (input(key)?, input(nonce)?, input(ad)?, input(data)?);
+    let mut room = output(room)?;
+    let result = call(&key, &nonce, &ad, &data, room.lend());
+    Some(format!("{} {}", number_of(&result), hex(&room)))
 }
 
 fn block_words(result: Result<[u8; 16], Refusal>) -> String {

@@ -1,6 +1,6 @@
 use native.Mathlib.Omega.{arith}
-use Rattle.cmac_run.proofs.chain.before_last.Statement.{statement}
-use Rattle.cmac_run.proofs.chain.before_last.Tie as tie
+use Rattle.cmac_run.proofs.before_last.Statement.{statement}
+use Rattle.cmac_run.proofs.before_last.Tie as tie
 
 returns : tie.Need-returns
 returns c = omega arith

@@ -1,0 +1,3 @@
+pub mod Agree
+pub mod Building
+pub mod Calls

@@ -1,0 +1,4 @@
+pub mod Sums
+pub mod Exactly
+pub mod Pieces
+pub mod Pins
