@@ -174,6 +174,44 @@ static void on_read_complete(void)
     seen(a == 0);
 }
 
+static uint8_t store[TURN * 480], map[TURN / 8];
+
+static dock_receiver receiving(void)
+{
+    return dock_receive_start(key, key_length, key, key_length, TURN, 7, store, sizeof store, map, sizeof map).receiver;
+}
+
+static void on_receive_start(void)
+{
+    dock_receive_answer a =
+        ON(dock_receive_start)(key, key_length, key, key_length, TURN, 7, store, sizeof store, map, sizeof map);
+    seen(a.number == 0);
+}
+
+// Blocks that are accepted, the last with fill, one that is held already, and one whose check is wrong.
+static void on_receive(void)
+{
+    make_image(1);
+    dock_receiver receiver = receiving();
+    for (size_t i = TURN; i-- > 0;) {
+        dock_receive_answer a =
+            ON(dock_receive)(receiver, image + i * 512, 512, store, sizeof store, map, sizeof map);
+        seen(a.number == 0 && a.receiver.receipt.held == TURN - i);
+        receiver = a.receiver;
+    }
+    dock_receive_answer again = ON(dock_receive)(receiver, image, 512, store, sizeof store, map, sizeof map);
+    seen(again.number == DOCK_ALREADY_HELD);
+    image[0] ^= 1;
+    dock_receive_answer wrong = ON(dock_receive)(receiver, image, 512, store, sizeof store, map, sizeof map);
+    seen(wrong.number == DOCK_CHECK_WRONG);
+}
+
+static void on_receive_complete(void)
+{
+    uint32_t a = ON(dock_receive_complete)(receiving());
+    seen(a == DOCK_NOT_COMPLETE);
+}
+
 static void on_wrap(void)
 {
     for (size_t length = 16; length <= 64; length += 8) {
@@ -266,6 +304,9 @@ static const struct {
     {"dock_read_start", on_read_start, 0, sizeof(dock_read_start_answer)},
     {"dock_read_turn", on_read_turn, sizeof(dock_reader), sizeof(dock_turn_answer)},
     {"dock_read_complete", on_read_complete, sizeof(dock_reader), 0},
+    {"dock_receive_start", on_receive_start, 40, sizeof(dock_receive_answer)},
+    {"dock_receive", on_receive, sizeof(dock_receiver) + 8, sizeof(dock_receive_answer)},
+    {"dock_receive_complete", on_receive_complete, sizeof(dock_receiver), 0},
     {"dock_wrap", on_wrap, 0, 0},
     {"dock_unwrap", on_unwrap, 0, 0},
     {"dock_view_block", on_view_block, 0, sizeof(dock_view_answer)},

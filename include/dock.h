@@ -1,5 +1,5 @@
-// The library's calls for C and C++: AES, its modes, the check (CMAC), release images and views of them, the key wrap, messages sealed
-// in CCM, and the bench model for apprentices.
+// The library's calls for C and C++: AES, its modes, the check (CMAC), release images, their blocks in any order and views of them, the
+// key wrap, messages sealed in CCM, and the bench model for apprentices.
 //
 // Building and linking. `rt staticlib dock` proves the library and writes target/staticlib/libdock.a, for x86-64 Linux. It has every
 // call below, and uses memcpy and memset and nothing else: no heap, no file, no memory of its own that is written. So calls may run in
@@ -18,11 +18,11 @@
 // - Nobody else writes any of it during the call, or reads an output.
 // - The record lent to dock_check_feed is aligned as its type asks. Bytes are lent at any alignment.
 //
-// Records and readers are plain values: they may be copied, stored and compared field by field, and hold no pointer. Any bytes in
+// Records, readers and receivers are plain values: they may be copied, stored and compared field by field, and hold no pointer. Any bytes in
 // them get a stated answer, also those that no start made: with a number of rounds that is not 10, 12 or 14 a record's check is
-// sixteen zeros, and a reader accepts no block.
+// sixteen zeros, and a reader or receiver accepts no block.
 //
-// Key material. Schedules, records and readers hold expanded keys, from which the keys follow. Overwrite them when they are done
+// Key material. Schedules, records, readers and receivers hold expanded keys, from which the keys follow. Overwrite them when they are done
 // with. Calls leave copies on the stack below the caller, and no call overwrites those.
 //
 // Time. Nothing is promised of how long a call takes: it may depend on keys and data.
@@ -48,8 +48,10 @@ enum {
     DOCK_COUNT_RANGE = 7,         // the count is not 1 to 65,535; the value is the count
     DOCK_BLOCK_NUMBER = 8,        // the number of the block is wrong: not the one expected, and the value is that number; in the writer,
                                   // not below the count
-    DOCK_COUNT_DIFFERS = 9,       // the count is not that of the first block accepted; the value is the count
-    DOCK_RELEASE_DIFFERS = 10,    // the release is not that of the first block accepted; the value is the release
+    DOCK_COUNT_DIFFERS = 9,       // the count is not that of the first block accepted, or the one that the receiver was told; the value is
+                                  // the count
+    DOCK_RELEASE_DIFFERS = 10,    // the release is not that of the first block accepted, or the one that the receiver was told; the value
+                                  // is the release
     DOCK_PAYLOAD_LENGTH = 12,     // the payload length is wrong for its place; the value is the length
     DOCK_EDITION_WRONG = 13,      // the edition is wrong: bytes 14 and 15 are neither 0 nor 2, or not those of the edition of the first
                                   // block accepted, and the value is their number, 0 too; in the writer, it is not 1 or 2
@@ -60,6 +62,7 @@ enum {
     DOCK_WRAP_LENGTH = 18,        // the data has a wrong length: 16 to 64 bytes are wrapped, 24 to 72 unwrapped, each a multiple of 8
     DOCK_INITIAL_VALUE = 19,      // the data was not wrapped under this key
     DOCK_NOT_BELOW_COUNT = 20,    // a place or number is not below the count
+    DOCK_ALREADY_HELD = 21,       // the block is held already
     DOCK_CCM_LENGTH = 23,         // a length is outside the profile: nonce 13 bytes, associated data up to 64, message up to 1,024, tag 8
     DOCK_CCM_TAG = 24             // the tag is wrong: not sealed so under this key, nonce and associated data
 };
@@ -249,6 +252,51 @@ dock_turn_answer dock_read_turn(dock_reader reader, const uint8_t *blocks, size_
 // 0 once the last block has been accepted, where next is not 0 and is the count, and 17 before. Only this 0 says that the release is
 // here: not the size of a file, and not a turn without a refusal.
 uint32_t dock_read_complete(dock_reader reader);
+
+// ---- Blocks of an image in any order (docs/IMAGE.md says when to use a receiver, and when a reader)
+
+// What a receiver knows of its image: the count and the release that it was told, how many blocks it holds, and the sum of their payload
+// lengths, which is the payload's length once all are held. Past 4,294,967,295 the last two stay there.
+typedef struct {
+    uint32_t count;
+    uint32_t release;
+    uint32_t held;
+    uint32_t bytes;
+} dock_receipt;
+
+// A receiver: the schedules of the encryption key and of the check key, and its receipt, which a caller may look at at any time; enc and
+// chk hold key material and are for the calls alone. 512 bytes.
+typedef struct {
+    dock_key_schedule enc;
+    dock_key_schedule chk;
+    dock_receipt receipt;
+} dock_receiver;
+
+// What a receiver answers. value: the number found where number is 7, 9, 10, 12 or 13, else 0. receiver: the one for the next call.
+typedef struct {
+    uint32_t number;
+    uint32_t value;
+    dock_receiver receiver;
+} dock_receive_answer;
+
+// A receiver of the blocks of one image of edition 1, of this count and release, that holds none. The store is to hold 480 bytes a block,
+// and the map one bit a block: bit n mod 8, 0 the lowest, of byte n / 8 for block n. The bytes 0 to (count + 7) / 8 - 1 of the map are
+// cleared, and nothing else is changed: only the length of the store is looked at. Refused by the first that applies of 1, 7, 4, with the
+// zero receiver, which accepts nothing.
+dock_receive_answer dock_receive_start(const uint8_t *ekey, size_t ekey_length, const uint8_t *ckey, size_t ckey_length,
+                                       uint32_t count, uint32_t release, const uint8_t *store, size_t store_length,
+                                       uint8_t *map, size_t map_length);
+
+// Takes in one block of 512 bytes, whatever its number: its decrypted 480 bytes, payload and zero fill, go to 480 times its number of the
+// store, its bit of the map is set, and the receipt counts it. Refused by the first that applies of 6, 4, 14, 7, 9, 10, 20, 12, 13, 15,
+// 21, with the very receiver that was given, and nothing changed, so it may be fetched and offered again. 21 looks at the map alone. Store
+// and map are to come back as they were left; no block lies in the other memory that is lent.
+dock_receive_answer dock_receive(dock_receiver receiver, const uint8_t *block, size_t block_length,
+                                 uint8_t *store, size_t store_length, uint8_t *map, size_t map_length);
+
+// 0 once every block is held, where the count is not 0 and is the number held, and 17 before. Only this 0 says that the release is here:
+// then the first receipt.bytes bytes of the store are its payload.
+uint32_t dock_receive_complete(dock_receiver receiver);
 
 // ---- Looking into a stored image
 

@@ -73,6 +73,7 @@ static const char *in_words(uint32_t number) {
     case DOCK_WRAP_LENGTH: return "the data has a wrong length";
     case DOCK_INITIAL_VALUE: return "the data was not wrapped under this key";
     case DOCK_NOT_BELOW_COUNT: return "a place or number is not below the count";
+    case DOCK_ALREADY_HELD: return "the block is held already";
     case DOCK_CCM_LENGTH: return "a length is outside the profile";
     case DOCK_CCM_TAG: return "the tag is wrong";
     default: return "a number that this program does not know";

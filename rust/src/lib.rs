@@ -1,5 +1,5 @@
-//! AES, its modes, the check (CMAC), release images and views of them, the key wrap, messages in CCM and the bench model for
-//! apprentices: safe calls over the C exports of a library in which every function is proved.
+//! AES, its modes, the check (CMAC), release images, their blocks in any order and views of them, the key wrap, messages in CCM and the
+//! bench model for apprentices: safe calls over the C exports of a library in which every function is proved.
 //!
 //! Every call ends, and every input has one answer: a result, or a [`Refusal`] with the number that `docs/REFUSALS.md` explains.
 //! A refused call leaves its output and whatever it is called on as they were, and no call changes a byte of an output past its
@@ -35,7 +35,7 @@
 //!
 //! # Key material and time
 //!
-//! [`Schedule`], [`Check`] and [`Reader`] hold expanded keys, and overwrite them with zeros when they are dropped, clones too. Calls
+//! [`Schedule`], [`Check`], [`Reader`] and [`Receiver`] hold expanded keys, and overwrite them with zeros when they are dropped, clones too. Calls
 //! and moves leave copies on the stack besides, and nothing here overwrites those.
 //!
 //! Nothing is promised of how long a call takes: it may depend on keys and data. But the comparison in [`verify`] takes the same time
@@ -48,6 +48,7 @@ mod check;
 mod cipher;
 mod image;
 mod modes;
+mod receiver;
 mod refusal;
 mod saes;
 pub mod sys;
@@ -62,6 +63,7 @@ pub use image::{write, Numbers, Reader, Stop, Turn};
 pub use modes::{
     cbc_decrypt, cbc_encrypt, cfb_decrypt, cfb_encrypt, ecb_decrypt, ecb_encrypt, ofb,
 };
+pub use receiver::{Receiver, Refused};
 pub use refusal::Refusal;
 pub use saes::{saes_decrypt, saes_encrypt};
 pub use view::{Blocks, View};

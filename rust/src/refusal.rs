@@ -22,9 +22,9 @@ pub enum Refusal {
     CountRange,
     /// 8: the block is not the one expected; of the writer, its number is not below the count.
     BlockNumber,
-    /// 9: the count is not that of the first block accepted.
+    /// 9: the count is not that of the first block accepted, or the one that the receiver was told.
     CountDiffers,
-    /// 10: the release is not that of the first block accepted.
+    /// 10: the release is not that of the first block accepted, or the one that the receiver was told.
     ReleaseDiffers,
     /// 12: the payload length is wrong for its place.
     PayloadLength,
@@ -46,6 +46,8 @@ pub enum Refusal {
     InitialValue,
     /// 20: a place or number is not below the count.
     NotBelowCount,
+    /// 21: the block is held already.
+    AlreadyHeld,
     /// 23: a length is outside the profile: nonce 13 bytes, associated data up to 64, message up to 1,024, and a tag of 8 behind it.
     CcmLength,
     /// 24: the tag is wrong: not sealed so under this key, nonce and associated data.
@@ -57,8 +59,7 @@ pub enum Refusal {
 use Refusal::*;
 
 /// Each with its number and what it says. No call answers 11.
-const NAMED: [(u32, Refusal, &str); 19] = [
-const NAMED: [(u32, Refusal, &str); 20] = [
+const NAMED: [(u32, Refusal, &str); 22] = [
     (1, KeyLength, "a key is not 16, 24 or 32 bytes"),
     (2, IvLength, "the IV has a wrong length for the mode"),
     (3, InputLength, "the input is not a multiple of 16 bytes"),
@@ -94,6 +95,7 @@ const NAMED: [(u32, Refusal, &str); 20] = [
         NotBelowCount,
         "a place or number is not below the count",
     ),
+    (21, AlreadyHeld, "the block is held already"),
     (23, CcmLength, "a length is outside the profile"),
     (24, CcmTag, "the tag is wrong"),
 ];

@@ -103,6 +103,31 @@ pub struct TurnAnswer {
 
 #[repr(C)]
 #[derive(Clone, Copy)]
+pub struct Receipt {
+    pub count: u32,
+    pub release: u32,
+    pub held: u32,
+    pub bytes: u32,
+}
+
+#[repr(C)]
+#[derive(Clone, Copy)]
+pub struct Receiver {
+    pub enc: KeySchedule,
+    pub chk: KeySchedule,
+    pub receipt: Receipt,
+}
+
+#[repr(C)]
+#[derive(Clone, Copy)]
+pub struct ReceiveAnswer {
+    pub number: u32,
+    pub value: u32,
+    pub receiver: Receiver,
+}
+
+#[repr(C)]
+#[derive(Clone, Copy)]
 pub struct ViewAnswer {
     pub made: u32,
     pub number: u32,
@@ -147,6 +172,19 @@ impl Reader {
             release: 0,
             edition: 0,
             last: [0; 16],
+        },
+    };
+}
+
+impl Receiver {
+    pub const ZERO: Receiver = Receiver {
+        enc: KeySchedule::ZERO,
+        chk: KeySchedule::ZERO,
+        receipt: Receipt {
+            count: 0,
+            release: 0,
+            held: 0,
+            bytes: 0,
         },
     };
 }
@@ -246,6 +284,16 @@ extern "C" {
         output: *mut u8, output_length: usize,
     ) -> TurnAnswer;
     pub fn dock_read_complete(reader: Reader) -> u32;
+
+    pub fn dock_receive_start(
+        ekey: *const u8, ekey_length: usize, ckey: *const u8, ckey_length: usize,
+        count: u32, release: u32, store: *const u8, store_length: usize, map: *mut u8, map_length: usize,
+    ) -> ReceiveAnswer;
+    pub fn dock_receive(
+        receiver: Receiver, block: *const u8, block_length: usize,
+        store: *mut u8, store_length: usize, map: *mut u8, map_length: usize,
+    ) -> ReceiveAnswer;
+    pub fn dock_receive_complete(receiver: Receiver) -> u32;
 
     pub fn dock_view_block(image_length: usize, place: usize) -> ViewAnswer;
     pub fn dock_view_check(image_length: usize, place: usize) -> ViewAnswer;

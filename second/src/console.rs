@@ -23,8 +23,9 @@ use crate::ccm;
 use crate::cmac::{self, RunningCheck};
 use crate::field;
 use crate::hex;
-use crate::image::{self, Reader, Turn, Which};
+use crate::image::{self, Reader, Stop, Turn, Which};
 use crate::modes::{self, Operation};
+use crate::receive::Receiver;
 use crate::refusal::{number_of, Refusal};
 use crate::saes::{Saes, States};
 use crate::view::View;
@@ -71,6 +72,7 @@ pub struct Console {
     longest: usize,
     check: RunningCheck,
     reader: Reader,
+    receiver: Receiver,
 }
 
 impl Default for Console {
@@ -85,6 +87,7 @@ impl Console {
             longest,
             check: RunningCheck::default(),
             reader: Reader::default(),
+            receiver: Receiver::default(),
         }
     }
 
@@ -116,6 +119,9 @@ impl Console {
             (b"read-start", [encryption, check]) => self.read_start(encryption, check),
             (b"read-turn", [asked, blocks, output]) => self.read_turn(asked, blocks, output),
             (b"read-complete", []) => Some(number_of(&self.reader.complete()).to_string()),
+            (b"receive-start", words) => self.receive_start(words),
+            (b"receive", [block, store, map]) => self.receive(block, store, map),
+            (b"receive-complete", []) => Some(number_of(&self.receiver.complete()).to_string()),
             (b"wrap", [key, data, output]) => wrap_call(wrap::wrap, key, data, output),
             (b"unwrap", [key, data, output]) => wrap_call(wrap::unwrap, key, data, output),
             (b"view-block", [image, place]) => view_call(image, place, |view, at| view.block(at)),
@@ -154,6 +160,48 @@ impl Console {
         let turn = self.reader.turn(asked, &blocks, &mut output);
         Some(format!("{} {}", turn_answer(turn), hex::shown(&output)))
     }
+
+    fn receive_start(&mut self, words: &[&[u8]]) -> Option<String> {
+        let [encryption_key, check_key, count, release, store, map] = words else {
+            return None;
+        };
+        let (encryption_key, check_key) = (hex::read(encryption_key)?, hex::read(check_key)?);
+        let (count, release) = (number(count)?, number(release)?);
+        let (store, mut map) = (hex::read(store)?, hex::read(map)?);
+        let started = Receiver::start(
+            &encryption_key,
+            &check_key,
+            count,
+            release,
+            &store,
+            &mut map,
+        );
+        let number = stop_number(&started);
+        self.receiver = started.unwrap_or_default();
+        Some(format!(
+            "{number} {} {}",
+            hex::shown(&store),
+            hex::shown(&map)
+        ))
+    }
+
+    fn receive(&mut self, block: &[u8], store: &[u8], map: &[u8]) -> Option<String> {
+        let (block, mut store, mut map) = (hex::read(block)?, hex::read(store)?, hex::read(map)?);
+        let received = self.receiver.receive(&block, &mut store, &mut map);
+        let value = received.err().and_then(|stop| stop.value);
+        let value = value.map_or("-".to_string(), |value| value.to_string());
+        Some(format!(
+            "{} {value} {} {} {}",
+            stop_number(&received),
+            self.receiver.held(),
+            hex::shown(&store),
+            hex::shown(&map)
+        ))
+    }
+}
+
+fn stop_number<T>(result: &Result<T, Stop>) -> u8 {
+    result.as_ref().err().map_or(0, |stop| stop.reason.number())
 }
 
 fn product(a: &[u8], b: &[u8]) -> Option<String> {

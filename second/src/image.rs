@@ -76,7 +76,7 @@ impl Header {
         ]
     }
 
-    fn read(block: &[u8; BLOCK]) -> Header {
+    pub fn read(block: &[u8; BLOCK]) -> Header {
         Header {
             number: u32::from_be_bytes([block[0], block[1], block[2], block[3]]),
             count: u32::from_be_bytes([block[4], block[5], block[6], block[7]]),
@@ -87,12 +87,12 @@ impl Header {
     }
 }
 
-fn count_fits(count: u32) -> bool {
+pub fn count_fits(count: u32) -> bool {
     (1..=LAST_COUNT).contains(&count)
 }
 
 /// Asked only where the number is below the count.
-fn length_fits(number: u32, count: u32, length: usize) -> bool {
+pub fn length_fits(number: u32, count: u32, length: usize) -> bool {
     let is_last = number.saturating_add(1) >= count;
     match (is_last, count) {
         (false, _) => length == PAYLOAD,
@@ -130,7 +130,7 @@ impl Keys {
         block
     }
 
-    fn check_holds(&self, block: &[u8; BLOCK], tail: &[u8]) -> bool {
+    pub fn check_holds(&self, block: &[u8; BLOCK], tail: &[u8]) -> bool {
         block[SEALED..] == self.check_of(&block[..SEALED], tail)
     }
 
@@ -138,7 +138,7 @@ impl Keys {
         check(&self.check, &[sealed, tail].concat())
     }
 
-    fn open(&self, header: &Header, block: &[u8; BLOCK]) -> Vec<u8> {
+    pub fn open(&self, header: &Header, block: &[u8; BLOCK]) -> Vec<u8> {
         let body = block[HEADER..SEALED].as_chunks().0;
         cbc_decrypt(&self.encryption, self.iv(header), body).into_flattened()
     }
@@ -280,14 +280,14 @@ pub struct Stop {
 }
 
 impl Stop {
-    fn plain(reason: Refusal) -> Stop {
+    pub fn plain(reason: Refusal) -> Stop {
         Stop {
             reason,
             value: None,
         }
     }
 
-    fn holding(reason: Refusal, value: impl Into<u32>) -> Stop {
+    pub fn holding(reason: Refusal, value: impl Into<u32>) -> Stop {
         Stop {
             reason,
             value: Some(value.into()),

@@ -1,5 +1,5 @@
-//! An independent second program for the cipher, its modes, the check, release images and views of them, the key wrap, messages in CCM and
-//! the bench model for apprentices.
+//! An independent second program for the cipher, its modes, the check, release images, their blocks in any order and views of them, the key
+//! wrap, messages in CCM and the bench model for apprentices.
 
 mod aes;
 mod ccm;
@@ -11,6 +11,7 @@ mod image;
 mod listing;
 mod modes;
 mod random;
+mod receive;
 mod refusal;
 mod saes;
 mod view;

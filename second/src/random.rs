@@ -4,6 +4,7 @@ mod calls;
 pub mod listings;
 mod messages;
 mod plan;
+mod receives;
 mod rng;
 mod spoil;
 pub mod turns;
@@ -87,10 +88,15 @@ impl Iterator for Lines {
 
     fn next(&mut self) -> Option<Vec<u8>> {
         let plan = self.draw.plan.clone();
+        let receiving = self.draw.receiving.clone();
         let line = self.draw_line();
-        if self.console.answer(&line) == BAD {
-            // The reading that the line would have started has not begun.
+        let answer = self.console.answer(&line);
+        if answer == BAD {
+            // What the line would have started has not begun.
             self.draw.plan = plan;
+            self.draw.receiving = receiving;
+        } else if line.starts_with(b"receive") {
+            self.draw.receiving.left_by(&answer);
         }
         self.draw.expected = self.console.reader().expected();
         self.draw.last = self.console.reader().last();
@@ -232,6 +238,28 @@ mod tests {
             assert!(count("6", "20") > 50, "{call}");
             assert_eq!(count("6", "0"), 0, "{call}");
         }
+    }
+
+    #[test]
+    fn images_are_received_whole_and_every_refusal_of_them_is_met() {
+        let mut console = Console::default();
+        let lines = drawn(8, Some("receive-start,receive,receive-complete"));
+        let mut complete = 0;
+        let mut met = std::collections::BTreeSet::new();
+        for line in &lines {
+            let answer = console.answer(line);
+            let first = answer.split(' ').next().unwrap_or_default().to_string();
+            if line == b"receive-complete" && first == "0" {
+                complete += 1;
+            }
+            if line.starts_with(b"receive ") {
+                met.insert(first);
+            }
+        }
+        for number in [0, 4, 6, 7, 9, 10, 12, 13, 14, 15, 20, 21] {
+            assert!(met.contains(&number.to_string()), "{number}");
+        }
+        assert!(complete > 10, "{complete} of 2000");
     }
 
     #[test]

@@ -21,6 +21,7 @@ pub enum Refusal {
     WrapLength = 18,
     InitialValue = 19,
     NotBelowCount = 20,
+    AlreadyHeld = 21,
     CcmLength = 23,
     CcmTag = 24,
 }

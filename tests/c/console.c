@@ -16,12 +16,16 @@ enum { LONGEST = 65536, MOST_WORDS = 10 };
 _Static_assert(sizeof(dock_record) == 60 * 4 + 8 + 16 + 16 + 8, "the layout of a record");
 _Static_assert(sizeof(dock_reader) == 2 * (60 * 4 + 8) + 4 * 4 + 16, "the layout of a reader");
 
+_Static_assert(sizeof(dock_receiver) == 512, "the layout of a receiver");
+
 static const dock_record zero_record;
 static const dock_reader zero_reader;
+static const dock_receiver zero_receiver;
 
 // What is held from line to line.
 static dock_record record;
 static dock_reader reader;
+static dock_receiver receiver;
 
 typedef uint32_t mode_call(const uint8_t *, size_t, const uint8_t *, size_t, const uint8_t *, size_t, uint8_t *, size_t);
 typedef dock_chain_answer chain_call(const uint8_t *, size_t, const uint8_t *, size_t, const uint8_t *, size_t, uint8_t *, size_t);
@@ -258,6 +262,47 @@ static bool read_complete(const form *f, const word *w) {
     return true;
 }
 
+static bool receive_start(const form *f, const word *w) {
+    (void)f;
+    uint32_t count, release;
+    const lent *ekey = input(w[0]), *ckey = input(w[1]), *store = input(w[4]), *map = output(w[5]);
+    if (!ekey || !ckey || !store || !map || !number32(w[2], &count) || !number32(w[3], &release)) return false;
+    dock_receive_answer answer = dock_receive_start(ekey->bytes, ekey->length, ckey->bytes, ckey->length, count, release,
+                                                    store->bytes, store->length, map->bytes, map->length);
+    receiver = answer.receiver;
+    expect(answer.number == 0 || memcmp(&receiver, &zero_receiver, sizeof receiver) == 0, "the receiver of a refused start");
+    expect(answer.value == (answer.number == DOCK_COUNT_RANGE ? count : 0), "the value of a start");
+    put_number(answer.number);
+    put_bytes(store->bytes, store->length);
+    put_bytes(map->bytes, map->length);
+    return true;
+}
+
+static bool receive(const form *f, const word *w) {
+    (void)f;
+    const lent *block = input(w[0]), *store = output(w[1]), *map = output(w[2]);
+    if (!block || !store || !map) return false;
+    dock_receive_answer answer =
+        dock_receive(receiver, block->bytes, block->length, store->bytes, store->length, map->bytes, map->length);
+    expect(answer.number == 0 || memcmp(&answer.receiver, &receiver, sizeof receiver) == 0, "a refused block changes a receiver");
+    expect(holds_value(answer.number) || answer.value == 0, "a value where the refusal holds none");
+    receiver = answer.receiver;
+    put_number(answer.number);
+    if (holds_value(answer.number)) put_number(answer.value);
+    else put_text("-");
+    put_number(receiver.receipt.held);
+    put_bytes(store->bytes, store->length);
+    put_bytes(map->bytes, map->length);
+    return true;
+}
+
+static bool receive_complete(const form *f, const word *w) {
+    (void)f;
+    (void)w;
+    put_number(dock_receive_complete(receiver));
+    return true;
+}
+
 static bool wrap(const form *f, const word *w) {
     const lent *key = input(w[0]), *data = input(w[1]), *out = output(w[2]);
     if (!key || !data || !out) return false;
@@ -332,6 +377,9 @@ static const form forms[] = {
     {"read-start", 2, read_start, {NULL}},
     {"read-turn", 3, read_turn, {NULL}},
     {"read-complete", 0, read_complete, {NULL}},
+    {"receive-start", 6, receive_start, {NULL}},
+    {"receive", 3, receive, {NULL}},
+    {"receive-complete", 0, receive_complete, {NULL}},
     {"wrap", 3, wrap, {.wrap = dock_wrap}},
     {"unwrap", 3, wrap, {.wrap = dock_unwrap}},
     {"view-block", 2, view, {.view = dock_view_block}},

@@ -1,4 +1,4 @@
-// Faults planted on purpose: a driver linked with these in place of thirteen calls must stop, or answer otherwise than the second program.
+// Faults planted on purpose: a driver linked with these in place of fourteen calls must stop, or answer otherwise than the second program.
 // The linker puts __wrap_CALL in the place of CALL (--wrap) and leaves the library's own as __real_CALL; FAULT in the environment
 // says which fault is made, and without it there is none.
 #include <stdlib.h>
@@ -27,6 +27,7 @@ dock_block_answer __real_dock_encrypt(const uint8_t *, size_t, dock_block);
 void __real_dock_check_feed(dock_record *, const uint8_t *, size_t);
 dock_states __real_dock_saes_decrypt(uint16_t, uint16_t);
 dock_turn_answer __real_dock_read_turn(dock_reader, const uint8_t *, size_t, size_t, uint8_t *, size_t);
+dock_receive_answer __real_dock_receive(dock_receiver, const uint8_t *, size_t, uint8_t *, size_t, uint8_t *, size_t);
 dock_view_answer __real_dock_view_block(size_t, size_t);
 dock_view_answer __real_dock_view_check(size_t, size_t);
 
@@ -132,4 +133,18 @@ uint32_t __wrap_dock_ccm_open(const uint8_t *key, size_t key_length, const uint8
                                            output_length);
     if (made(15) && number == DOCK_CCM_TAG && output_length > 0) flip(output);
     return number;
+}
+
+// 16: the bit of a block that was refused.
+// 17: the byte behind the part of the store that is an accepted block's.
+// 18: the count, moved by a refused block.
+dock_receive_answer __wrap_dock_receive(dock_receiver receiver, const uint8_t *block, size_t block_length,
+                                        uint8_t *store, size_t store_length, uint8_t *map, size_t map_length) {
+    dock_receive_answer answer = __real_dock_receive(receiver, block, block_length, store, store_length, map, map_length);
+    size_t number = block_length == DOCK_IMAGE_BLOCK ? (size_t)block[2] * 256 + block[3] : 0;
+    size_t past = (number + 1) * DOCK_IMAGE_PAYLOAD;
+    if (made(16) && answer.number != DOCK_DONE && number / 8 < map_length) map[number / 8] |= (uint8_t)(1 << number % 8);
+    if (made(17) && answer.number == DOCK_DONE && past < store_length) flip(store + past);
+    if (made(18) && answer.number != DOCK_DONE) answer.receiver.receipt.held++;
+    return answer;
 }

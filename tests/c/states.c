@@ -1,5 +1,5 @@
-// Records and readers that no start made, and images longer than memory, which no line of a console reaches: each call ends, and answers
-// as the rules say.
+// Records, readers and receivers that no start made, images longer than memory, and the largest image received, which no line of a console
+// reaches: each call ends, and answers as the rules say.
 #include <stdbool.h>
 #include <stdio.h>
 #include <stdlib.h>
@@ -267,6 +267,74 @@ static void one_view(void) {
     }
 }
 
+// A receiver that no start made, with a schedule that no key made, accepts nothing, whatever room it is lent.
+static void one_receiver(const uint8_t *block) {
+    uint8_t store[960], map[3], store_before[960], map_before[3];
+    dock_receiver receiver;
+    fill(&receiver, sizeof receiver);
+    fill(store, sizeof store);
+    fill(map, sizeof map);
+    memcpy(store_before, store, sizeof store);
+    memcpy(map_before, map, sizeof map);
+    receiver.enc.rounds = some_number();
+    receiver.chk.rounds = usable(receiver.enc.rounds) ? 13 : some_number();
+    receiver.receipt.count = (uint32_t)some_number();
+    receiver.receipt.held = drawn() % 2 ? receiver.receipt.count : (uint32_t)some_number();
+    bool room = receiver.receipt.count <= 2;
+    dock_receive_answer answer = dock_receive(receiver, block, 512, store, sizeof store, map, sizeof map);
+    expect(answer.number == (room ? 14 : 4) && answer.value == 0, "why a receiver without keys refuses");
+    expect(memcmp(&answer.receiver, &receiver, sizeof receiver) == 0, "a refused block changes a receiver");
+    expect(memcmp(store, store_before, sizeof store) == 0 && memcmp(map, map_before, sizeof map) == 0, "a refused block changes what is lent");
+    answer = dock_receive(receiver, block, 511, store, sizeof store, map, sizeof map);
+    expect(answer.number == 6 && memcmp(&answer.receiver, &receiver, sizeof receiver) == 0, "a block of 511 bytes");
+    bool complete = receiver.receipt.count != 0 && receiver.receipt.held == receiver.receipt.count;
+    expect(dock_receive_complete(receiver) == (complete ? 0 : 17), "whether a receiver is complete");
+}
+
+// A receiver with keys whose counts are where no receiving comes: they stay at the largest number.
+static void one_sum(uint32_t held, uint32_t bytes, uint32_t length) {
+    uint8_t block[512], store[480], map[1] = {0xff};
+    dock_receiver receiver = dock_receive_start(ekey, sizeof ekey, ckey, sizeof ckey, 1, 9, store, sizeof store, map, sizeof map).receiver;
+    expect(map[0] == 0, "a start clears the map");
+    receiver.receipt.held = held;
+    receiver.receipt.bytes = bytes;
+    seal(&(header){0, 1, 9, length, 0, {0}}, block);
+    dock_receipt after = dock_receive(receiver, block, sizeof block, store, sizeof store, map, sizeof map).receiver.receipt;
+    expect(after.held == (held == UINT32_MAX ? held : held + 1), "the count held");
+    expect(after.bytes == (bytes > UINT32_MAX - length ? UINT32_MAX : bytes + length), "the sum of lengths");
+    expect(map[0] == 1, "the bit of block 0");
+}
+
+// The largest image, its blocks in an order that leaps about, into memory of just its size: every one is accepted, and once more is not.
+static void largest(void) {
+    enum { COUNT = 65535, STEP = 40504 };
+    uint8_t *store = malloc((size_t)COUNT * 480), *map = malloc(8192), block[512], payload[480];
+    expect(store && map, "memory for the largest image");
+    memset(map, 0xff, 8192);
+    expect(dock_receive_start(ekey, sizeof ekey, ckey, sizeof ckey, COUNT, 9, store, (size_t)COUNT * 480 - 1, map, 8192).number == 4, "a store one byte short");
+    expect(dock_receive_start(ekey, sizeof ekey, ckey, sizeof ckey, COUNT, 9, store, (size_t)COUNT * 480, map, 8191).number == 4, "a map one byte short");
+    dock_receiver receiver = dock_receive_start(ekey, sizeof ekey, ckey, sizeof ckey, COUNT, 9, store, (size_t)COUNT * 480, map, 8192).receiver;
+    uint32_t number = 0;
+    for (uint32_t i = 0; i < COUNT; i++) {
+        expect(dock_receive_complete(receiver) == 17, "complete before the last block");
+        number = (number + STEP) % COUNT;
+        memset(payload, (int)(number % 251 + 1), sizeof payload);
+        payload[0] = (uint8_t)(number / 256);
+        expect(dock_write(ekey, sizeof ekey, ckey, sizeof ckey, number, COUNT, 9, 1, (dock_block){{0}}, payload, 480, block, 512) == 0, "a block written");
+        dock_receive_answer answer = dock_receive(receiver, block, 512, store, (size_t)COUNT * 480, map, 8192);
+        expect(answer.number == 0 && answer.receiver.receipt.held == i + 1, "a block of the largest image");
+        receiver = answer.receiver;
+        if (i % 4096 == 0)
+            expect(dock_receive(receiver, block, 512, store, (size_t)COUNT * 480, map, 8192).number == 21, "a block once more");
+    }
+    expect(dock_receive_complete(receiver) == 0 && receiver.receipt.bytes == (uint32_t)COUNT * 480, "the largest image is complete");
+    for (uint32_t n = 0; n < COUNT; n++)
+        expect(store[(size_t)n * 480] == (uint8_t)(n / 256) && store[(size_t)n * 480 + 479] == (uint8_t)(n % 251 + 1), "the store of the largest image");
+    for (size_t i = 0; i < 8192; i++) expect(map[i] == (i == 8191 ? 0x7f : 0xff), "the map of the largest image");
+    free(store);
+    free(map);
+}
+
 int main(void) {
     uint8_t block[512];
     seal(&(header){0, 1, 2, 480, 0, {0}}, block);
@@ -275,6 +343,14 @@ int main(void) {
     for (size_t i = 0; i < sizeof cases / sizeof *cases; i++) one_by_hand(&cases[i]);
     for (int i = 0; i < TRIALS; i++) one_drawn();
     for (int i = 0; i < TRIALS; i++) one_view();
+    for (int i = 0; i < TRIALS; i++) one_receiver(block);
+    static const uint32_t sums[] = {0, 1, UINT32_MAX - 480, UINT32_MAX - 479, UINT32_MAX - 1, UINT32_MAX};
+    for (size_t i = 0; i < sizeof sums / sizeof *sums; i++)
+        for (size_t k = 0; k < sizeof sums / sizeof *sums; k++) {
+            one_sum(sums[i], sums[k], 0);
+            one_sum(sums[i], sums[k], 480);
+        }
+    largest();
     printf("states: %ld comparisons hold\n", compared);
     return 0;
 }

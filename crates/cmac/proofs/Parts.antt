@@ -11,7 +11,7 @@ use Rattle.aes_spec.specs.Cipher.{encryptBlock, standard}
 use Rattle.aes_spec.specs.Cipher.{encryptBlock, standard}
 use Rattle.aes_sbox.specs.Sbox.{sBox}
 use Rattle.cmac_spec.specs.Cmac.{ended, cmac}
-use Rattle.cmac_run.specs.Model.{runFrom, closed}
+use Rattle.cmac_run.specs.Running.{runFrom, closed}
 use Rattle.cmac.specs.Calls.{checkOf, recordOf, startOf, fedWith, closeOf, fedParts}
 use Rattle.cmac_run.specs.declared.Run.{Run}
 use Rattle.cmac.specs.declared.Record.{Record}

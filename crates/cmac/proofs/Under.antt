@@ -7,7 +7,7 @@ use Rattle.aes_schedule.specs.Schedule.{scheduleOf}
 use Rattle.aes_schedule.specs.declared.Expanded.{Expanded}
 use Rattle.aes_spec.specs.Cipher.{standard}
 use Rattle.cmac_spec.specs.Cmac.{cmac}
-use Rattle.cmac_run.specs.Model.{fed, closed}
+use Rattle.cmac_run.specs.Running.{fed, closed}
 use Rattle.cmac_run.specs.declared.Run.{Run}
 use Rattle.cmac.specs.Calls.{checkOf, runOf, recordOf, fedWith, closeOf}
 use Rattle.cmac.specs.declared.Record.{Record}

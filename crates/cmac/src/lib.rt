@@ -5,7 +5,7 @@ use cmac_run::Run;
 ghost use mathlib.Core.Path.{_≡_};
 ghost use Rattle.aes_spec.specs.Cipher.{standard};
 ghost use Rattle.cmac_spec.specs.Cmac as spec;
-ghost use Rattle.cmac_run.specs.Model as running;
+ghost use Rattle.cmac_run.specs.Running as running;
 ghost use Rattle.cmac.specs.Calls as calls;
 
 // The answer for the key, and the check: zeros where the key was refused.

@@ -12,7 +12,7 @@ use Rattle.cmac_spec.specs.Cmac.{key1, key2, last, beforeLast, chained, ended, 
 use Rattle.cmac_spec.proofs.Chain.{drop-piece, chained-add, chained-front}
 use Rattle.cmac_spec.proofs.Filling.{piece, piece-short, piece-full, held-length}
 use Rattle.cmac_spec.proofs.Same.{chained-same, ended-same}
-use Rattle.cmac_run.specs.Model.{heldBytes, holding, runFrom, begun, fed, closed, closedBy}
+use Rattle.cmac_run.specs.Running.{heldBytes, holding, runFrom, begun, fed, closed, closedBy}
 use Rattle.cmac_run.specs.declared.Run.{Run}
 
 module _ (c : BlockCipher) where

@@ -1,1 +1,1 @@
-pub mod Model
+pub mod Running

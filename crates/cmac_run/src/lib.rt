@@ -7,7 +7,7 @@ use octets_block::xor;
 ghost use mathlib.Core.Path.{_≡_};
 ghost use Prim.Native.Nat.{_-_, _/_};
 ghost use Rattle.aes_spec.specs.Cipher.{standard};
-ghost use Rattle.cmac_run.specs.Model as running;
+ghost use Rattle.cmac_run.specs.Running as running;
 
 // The value of the chain, and the bytes that are not in it yet, of which there are up to 16.
 pub struct Run {

@@ -143,8 +143,14 @@ pub fn out_len(a: Args, k: usize, outs: &[u8]) -> usize
     if 10 <= k {
         return 0;
     }
-    let n = numbers[k] as usize;
-    if outs.len() < n { 0 } else { n }
+    within(numbers[k] as usize, outs)
+}
+
+// So many bytes at the front of a memory, or none where it has fewer.
+pub fn within(n: usize, memory: &[u8]) -> usize
+    ensures { λ r. ⌜ Counts r (now (memory .entry)) ⌝ }
+{
+    if memory.len() < n { 0 } else { n }
 }
 
 // The number of word k where the form asks for one of 32 bits: no other has passed.

@@ -5,6 +5,7 @@ use crate::checked;
 use crate::held::Held;
 use crate::imaged;
 use crate::moded;
+use crate::received;
 use crate::sealed;
 use crate::simplified;
 use crate::viewed;
@@ -14,13 +15,14 @@ use basic::BasicCall;
 use checked::CheckCall;
 use imaged::ImageCall;
 use modes_spec::Operation;
+use received::ReceiveCall;
 use sealed::CcmCall;
 use simplified::SimplifiedCall;
 use viewed::ViewCall;
 use wrapped::WrapCall;
 
 // A row has the name of a call, and from its place 20 on the form of its line: the letters are in args.rt.
-const ROWS: [[u8; 30]; 27] = [
+const ROWS: [[u8; 30]; 30] = [
     *b"product             .11       ",
     *b"schedule            .x        ",
     *b"encrypt             .xb       ",
@@ -48,6 +50,9 @@ const ROWS: [[u8; 30]; 27] = [
     *b"saes-decrypt        .22       ",
     *b"ccm-seal            .xxxxo    ",
     *b"ccm-open            .xxxxo    ",
+    *b"receive-start       .xxnnxo   ",
+    *b"receive             .xox      ",
+    *b"receive-complete    .         ",
 ];
 
 pub enum Call {
@@ -60,6 +65,7 @@ pub enum Call {
     Viewed(ViewCall),
     Simplified(SimplifiedCall),
     Sealed(CcmCall),
+    Received(ReceiveCall),
     Unknown,
 }
 
@@ -93,19 +99,22 @@ fn call_at(k: usize) -> Call {
         24 => Call::Simplified(SimplifiedCall::Decrypt),
         25 => Call::Sealed(CcmCall::Seal),
         26 => Call::Sealed(CcmCall::Open),
+        27 => Call::Received(ReceiveCall::Begin),
+        28 => Call::Received(ReceiveCall::Receive),
+        29 => Call::Received(ReceiveCall::Full),
         _ => Call::Unknown,
     }
 }
 
 // No line has the form of a row past the last, since that asks for no word at all.
 fn row(k: usize) -> [u8; 30] {
-    if k < 27 { ROWS[k] } else { [32; 30] }
+    if k < 30 { ROWS[k] } else { [32; 30] }
 }
 
-// The row that has a word for its name, or 27.
+// The row that has a word for its name, or 30.
 fn row_of(w: &[u8]) -> usize {
     let mut k: usize = 0;
-    while k < 27 {
+    while k < 30 {
         if has_name(row(k), w) {
             return k;
         }
@@ -143,6 +152,7 @@ fn made(call: Call, held: Held, ins: &[u8], a: Args, outs: &mut [u8], text: &mut
         Call::Viewed(c) => held.at(viewed::answer(c, ins, a, text, at)),
         Call::Simplified(c) => held.at(simplified::answer(c, ins, a, text, at)),
         Call::Sealed(c) => held.at(sealed::answer(c, ins, a, outs, text, at)),
+        Call::Received(c) => received::answer(c, held, ins, a, outs, text, at),
         Call::Unknown => held,
     }
 }

@@ -3,6 +3,8 @@ use aes_schedule::KeySchedule;
 use cmac::Record;
 use image_progress::Progress;
 use image_reader::Reader;
+use image_receiver::Receiver;
+use image_receiver_answer::Receipt;
 
 // The answers that wait to be written end at `end`, and `cut` says that a write failed; a call that keeps a value has its field here.
 pub struct Held {
@@ -10,6 +12,7 @@ pub struct Held {
     pub cut: bool,
     pub record: Record,
     pub reader: Reader,
+    pub receiver: Receiver,
 }
 
 impl Held {
@@ -36,6 +39,16 @@ impl Held {
                     last: [0u8; 16],
                 },
             },
+            receiver: Receiver {
+                enc: no_key(),
+                chk: no_key(),
+                receipt: Receipt {
+                    count: 0,
+                    release: 0,
+                    held: 0,
+                    bytes: 0,
+                },
+            },
         }
     }
 
@@ -57,6 +70,11 @@ impl Held {
 
     pub fn with_reader(mut self, reader: Reader) -> Held {
         self.reader = reader;
+        self
+    }
+
+    pub fn with_receiver(mut self, receiver: Receiver) -> Held {
+        self.receiver = receiver;
         self
     }
 }

@@ -7,6 +7,7 @@ mod held;
 mod imaged;
 mod moded;
 mod print;
+mod received;
 mod sealed;
 mod simplified;
 mod stopped;

@@ -32,6 +32,19 @@ pub fn spaced(n: u64, text: &mut [u8], at: usize) -> usize {
     text_put::put(b" ", text, p)
 }
 
+// A number, or `-` for the mark that there is none, with a space behind it.
+pub fn spaced_or_dash(n: u64, text: &mut [u8], at: usize) -> usize {
+    let p = number_or_dash(n, text, at);
+    text_put::put(b" ", text, p)
+}
+
+// `BYTES BYTES`
+pub fn two_bytes(a: &[u8], b: &[u8], text: &mut [u8], at: usize) -> usize {
+    let p = text_hex::put_hex(a, text, at);
+    let q = text_put::put(b" ", text, p);
+    text_hex::put_hex(b, text, q)
+}
+
 // `N BYTES`
 pub fn number_bytes(n: u64, bytes: &[u8], text: &mut [u8], at: usize) -> usize {
     let p = spaced(n, text, at);

@@ -26,7 +26,11 @@ pub fn turn_numbers(t: Turn) -> [u64; 6] {
 }
 
 fn value_of(reason: Reason) -> u64 {
-    let value = reason.value();
+    shown(reason.value())
+}
+
+// The value that a refusal holds, or the mark that it holds none.
+pub fn shown(value: Value) -> u64 {
     match value {
         Value::Held(n) => n as u64,
         Value::NoValue => NONE,

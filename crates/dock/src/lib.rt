@@ -3,9 +3,13 @@
 use aes::Ciphered;
 use aes_schedule::KeySchedule;
 use cmac::Record;
+use dock_receive::ReceiverAnswer;
+use dock_receive::done_told;
+use dock_receive::start_told;
 use dock_turn::TurnAnswer;
 use dock_turn::turn_answer;
 use image_reader::Reader;
+use image_receiver::Receiver;
 use image_view::ViewAnswer;
 use image_writer_answer::Numbers;
 use modes_spec::Operation;
@@ -21,8 +25,10 @@ ghost use Rattle.modes.specs.Calls.{modeAnswer};
 ghost use Rattle.cmac.specs.Calls.{checkOf, startOf, fedWith, closeOf};
 ghost use Rattle.image_writer_answer.specs.Answers.{writeNumber};
 ghost use Rattle.image_writer.specs.Calls.{writeAnswer, writeOutput};
+ghost use Rattle.image_progress.specs.Progress.{completionNumber};
 ghost use Rattle.image_reader.specs.Calls as readers;
 ghost use Rattle.image_reader.specs.Calls.{turnOf};
+ghost use Rattle.image_receiver.specs.Calls as receivers;
 ghost use Rattle.image_view.specs.Views as views;
 ghost use Rattle.wrap_answer.specs.Answers.{wrapNumber};
 ghost use Rattle.wrap.specs.Calls.{wrapAnswer, wrapOutput, unwrapAnswer, unwrapOutput};
@@ -31,6 +37,7 @@ ghost use Rattle.ccm_answer.specs.Answers.{ccmNumber};
 ghost use Rattle.ccm.specs.Calls.{sealAnswer, sealOutput, openAnswer, openOutput};
 ghost use Rattle.dock.specs.Answers.{scheduleAnswer, blockAnswer, chainAnswer, modeApplied, afterMode, checkAnswer, startAnswer, closeAnswer, readStartAnswer, numbers};
 ghost use Rattle.dock_turn.specs.Answers.{turnAnswer};
+ghost use Rattle.dock_receive.specs.Answers.{startTold, doneTelling};
 
 // Sixteen bytes by value: C passes no array so.
 #[repr(C)]
@@ -289,9 +296,46 @@ pub extern "C" fn dock_read_turn(
 
 #[no_mangle]
 pub extern "C" fn dock_read_complete(reader: Reader) -> u32
-    ensures { λ r. ⌜ r ≡ readers.completionNumber (readers.completionOf reader) ⌝ }
+    ensures { λ r. ⌜ r ≡ completionNumber (readers.completionOf reader) ⌝ }
 {
     let answer = image_reader::read_complete(reader);
+    answer.number()
+}
+
+#[no_mangle]
+pub extern "C" fn dock_receive_start(
+    ekey: &[u8],
+    ckey: &[u8],
+    count: u32,
+    release: u32,
+    store: &[u8],
+    map: &mut [u8],
+) -> ReceiverAnswer
+    ensures answer { λ r. ⌜ r ≡ startTold (receivers.beginOf (now (ekey .entry)) (now (ckey .entry)) count release (now (store .entry)) (now (map .entry)) .0) ⌝ }
+    ensures cleared { λ _. ⌜ now (map .exit) ≡ receivers.beginOf (now (ekey .entry)) (now (ckey .entry)) count release (now (store .entry)) (now (map .entry)) .1 ⌝ }
+{
+    let s = image_receiver::receive_start(ekey, ckey, count, release, store, map);
+    start_told(s)
+}
+
+#[no_mangle]
+pub extern "C" fn dock_receive(
+    receiver: Receiver,
+    block: &[u8],
+    store: &mut [u8],
+    map: &mut [u8],
+) -> ReceiverAnswer
+    ensures { λ r. ⌜ (r, now (store .exit), now (map .exit)) ≡ doneTelling (receivers.receiveOf receiver (now (block .entry)) (now (store .entry)) (now (map .entry))) ⌝ }
+{
+    let d = image_receiver::receive(receiver, block, store, map);
+    done_told(d)
+}
+
+#[no_mangle]
+pub extern "C" fn dock_receive_complete(receiver: Receiver) -> u32
+    ensures { λ r. ⌜ r ≡ completionNumber (receivers.allHeld receiver) ⌝ }
+{
+    let answer = image_receiver::receive_complete(receiver);
     answer.number()
 }
 

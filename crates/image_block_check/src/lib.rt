@@ -9,7 +9,8 @@ ghost use mathlib.Core.Path.{_≡_};
 ghost use mathlib.Core.Bool.{_&&_};
 ghost use mathlib.Core.List.{_++_};
 ghost use Rattle.image_spec.specs.Sealed.{checks};
-ghost use Rattle.image_spec.specs.Model.{usable, lentMac};
+ghost use Rattle.image_spec.specs.KeyPair.{usable};
+ghost use Rattle.image_spec.specs.Model.{lentMac};
 
 // The check of the first bytes of a block and a tail behind them, which are not copied together.
 pub fn check_of(

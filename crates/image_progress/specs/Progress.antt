@@ -4,6 +4,13 @@ use mathlib.Core.Bool.{Bool, _&&_, cond}
 use lib.Dec.{eqb, ltb, leb}
 use Rattle.image_limits.specs.Marks.{selected, markOf}
 use Rattle.image_progress.specs.declared.Progress.{Progress}
+use Rattle.image_progress.specs.declared.Completion.{Completion}
+use Rattle.image_progress.specs.declared.Completion.the-variants.{Complete, NotComplete}
+
+-- 0 where an image is complete, and 17 where it is not (docs/REFUSALS.md)
+abbrev pub completionNumber : Completion → ℕ
+completionNumber Complete = 0
+completionNumber NotComplete = 17
 
 -- the last block has been accepted: at least one has, and the number expected is the count
 unfoldable pub done : Progress → Bool

@@ -2,7 +2,7 @@
 use image_limits::edition_selected;
 use image_limits::mark_of;
 ghost use mathlib.Core.Path.{_≡_};
-ghost use Rattle.image_progress.specs.Progress.{done, closed, markFor};
+ghost use Rattle.image_progress.specs.Progress.{completionNumber, done, closed, markFor};
 
 // How far a reader has come: the number that it expects, and, where that is not 0, the count, release and edition that its first
 // accepted block fixed; and the check of the block that it accepted last, zeros before the first.
@@ -13,6 +13,23 @@ pub struct Progress {
     pub release: u32,
     pub edition: u32,
     pub last: [u8; 16],
+}
+
+// Whether an image is complete.
+pub enum Completion {
+    Complete,
+    NotComplete,
+}
+
+impl Completion {
+    pub fn number(self) -> u32
+        ensures { λ r. ⌜ r ≡ completionNumber self ⌝ }
+    {
+        match self {
+            Completion::Complete => 0,
+            Completion::NotComplete => 17,
+        }
+    }
 }
 
 // Whether the last block has been accepted.

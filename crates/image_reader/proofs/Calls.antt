@@ -7,10 +7,10 @@ use Rattle.aes_sbox.specs.Sbox.{sBox}
 use Rattle.aes_schedule.specs.Schedule.{scheduleOf}
 use Rattle.aes_schedule.specs.declared.Expanded.{Expanded}
 use Rattle.aes_schedule.specs.declared.KeyAnswer.the-variants.{Taken, KeyLength}
-use Rattle.image_spec.specs.Model.{bothTaken}
+use Rattle.image_spec.specs.KeyPair.{bothTaken, noSchedule}
 use Rattle.image_reader_tally.specs.declared.BlocksRead.{BlocksRead}
 use Rattle.image_reader_turn.specs.Turn.{turnUnder}
-use Rattle.image_reader.specs.Calls.{noSchedule, startWith, startOf, keysOf, turnAfter, turnOf}
+use Rattle.image_reader.specs.Calls.{startWith, startOf, keysOf, turnAfter, turnOf}
 use Rattle.image_reader.specs.declared.Reader.{Reader}
 use Rattle.image_reader.specs.declared.ReadStarted.{ReadStarted}
 

@@ -2,7 +2,6 @@
 use mathlib.Core.Bool.{cond}
 use Prim.Native.Nat.{ℕ}
 use mathlib.Core.List.{List}
-use lib.ListN.{replicate}
 use Rattle.aes_sbox.specs.Sbox.{sBox}
 use Rattle.aes_schedule.specs.Schedule.{scheduleOf}
 use Rattle.aes_schedule.specs.declared.Expanded.{Expanded}
@@ -11,19 +10,16 @@ use Rattle.aes_schedule.specs.declared.KeyAnswer.{KeyAnswer}
 use Rattle.aes_schedule.specs.declared.KeyAnswer.the-variants.{Taken, KeyLength}
 use Rattle.image_progress.specs.Progress.{done}
 use Rattle.image_spec.specs.Judge.{Keys, BlockReader, ofBoth, fresh}
-use Rattle.image_spec.specs.Model.{bothTaken}
+use Rattle.image_spec.specs.KeyPair.{bothTaken, noSchedule, keysUnder}
 use Rattle.image_reader_tally.specs.declared.BlocksRead.{BlocksRead}
-use Rattle.image_reader_turn.specs.Turn.{keysUnder, turnUnder}
+use Rattle.image_reader_turn.specs.Turn.{turnUnder}
 use Rattle.image_reader.specs.declared.Reader.{Reader}
 use Rattle.image_reader.specs.declared.Turn.{Turn}
 use Rattle.image_reader.specs.declared.ReadStarted.{ReadStarted}
-use Rattle.image_reader.specs.declared.Completion.{Completion}
-use Rattle.image_reader.specs.declared.Completion.the-variants.{Complete, NotComplete}
+use Rattle.image_progress.specs.declared.Completion.{Completion}
+use Rattle.image_progress.specs.declared.Completion.the-variants.{Complete, NotComplete}
 
 -- ---- the start
-
-abbrev pub noSchedule : KeySchedule
-noSchedule = record { words = replicate 60 0; rounds = 0 }
 
 abbrev pub startWith : KeyAnswer → (enc chk : KeySchedule) → ReadStarted
 startWith answer enc chk = record { answer = answer; reader = record { enc = enc; chk = chk; progress = fresh } }
@@ -58,10 +54,6 @@ unfoldable pub turnOf : Reader → (lent : List ℕ) (asked : ℕ) (out : List �
 turnOf r lent asked out = (turnAfter r (turnUnder (keysOf r) (r .progress) lent asked out .0), turnUnder (keysOf r) (r .progress) lent asked out .1)
 
 -- ---- completion
-
-abbrev pub completionNumber : Completion → ℕ
-completionNumber Complete = 0
-completionNumber NotComplete = 17
 
 unfoldable pub completionOf : Reader → Completion
 completionOf r = cond (done (r .progress)) Complete NotComplete

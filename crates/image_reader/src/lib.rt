@@ -2,6 +2,7 @@
 use aes_schedule::KeyAnswer;
 use aes_schedule::KeySchedule;
 use aes_schedule::both_taken;
+use image_progress::Completion;
 use image_progress::Progress;
 use image_reader_tally::Stop;
 use image_reader_turn::turn;
@@ -29,22 +30,6 @@ pub struct Turn {
     pub accepted: usize,
     pub bytes: usize,
     pub stop: Stop,
-}
-
-pub enum Completion {
-    Complete,
-    NotComplete,
-}
-
-impl Completion {
-    pub fn number(self) -> u32
-        ensures { λ r. ⌜ r ≡ spec.completionNumber self ⌝ }
-    {
-        match self {
-            Completion::Complete => 0,
-            Completion::NotComplete => 17,
-        }
-    }
 }
 
 // A reader that expects block 0.

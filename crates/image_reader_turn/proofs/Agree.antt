@@ -14,10 +14,11 @@ use Rattle.image_progress.specs.declared.Progress.{Progress}
 use Rattle.image_reasons.specs.declared.Verdict.{Verdict}
 use Rattle.image_reasons.specs.declared.Verdict.the-variants.{Accepted, Refused}
 use Rattle.image_spec.specs.Judge.{BlockReader, either, ofBoth, taken}
+use Rattle.image_spec.specs.KeyPair.{keysUnder}
 use Rattle.image_spec.specs.Model.{lentKeys}
 use Rattle.image_spec.specs.declared.Rounds.{Rounds}
 use Rattle.image_spec.proofs.Agree.{verdict-same, plain-same}
-use Rattle.image_reader_turn.specs.Turn.{Reading, onward, readBlocks, cut, keysUnder}
+use Rattle.image_reader_turn.specs.Turn.{Reading, onward, readBlocks, cut}
 
 -- two readers that give every block the same verdict, and open alike what they accept
 module _ (d e : BlockReader) (verdicts : (s : Progress) (b : List ℕ) → Octets 512 b → d .verdict s b ≡ e .verdict s b)

@@ -5,15 +5,11 @@ use mathlib.Core.List.{List, [], _∷_, _++_}
 use lib.Dec.{eqb, ltb, leb}
 use lib.ListN.{length, take, drop}
 use Rattle.octets.specs.Octets.{over}
-use Rattle.aes_spec.specs.Cipher.{standard}
-use Rattle.cmac_spec.specs.Cmac.{cmac}
 use Rattle.image_layout.specs.Layout.{bodySize, blockSize, headOf}
 use Rattle.image_progress.specs.declared.Progress.{Progress}
 use Rattle.image_reasons.specs.declared.Verdict.{Verdict}
 use Rattle.image_reasons.specs.declared.Verdict.the-variants.{Accepted, Refused}
 use Rattle.image_spec.specs.Judge.{Keys, BlockReader, ofBoth, taken}
-use Rattle.image_spec.specs.Model.{usable}
-use Rattle.image_spec.specs.declared.Rounds.{Rounds}
 use Rattle.image_reader_tally.specs.Tally.{blocksReadWith}
 use Rattle.image_reader_tally.specs.declared.BlocksRead.{BlocksRead}
 use Rattle.image_reader_tally.specs.declared.Stop.{Stop}
@@ -57,10 +53,6 @@ cut zero s = []
 cut (suc n) s = take blockSize s ∷ cut n (drop blockSize s)
 
 -- ---- a turn
-
--- AES under the two schedules; they are usable where keys can have given them
-abbrev pub keysUnder : (ewords cwords : List ℕ) → Rounds → Keys
-keysUnder ewords cwords n = record { enc = standard ewords (n .enc); mac = cmac (standard cwords (n .chk)); usable = usable n }
 
 -- k: the smaller of the blocks lent and the number asked for
 abbrev pub handled : (lent : List ℕ) (asked : ℕ) → ℕ

@@ -17,6 +17,7 @@ ghost use mathlib.Core.Path.{_≡_};
 ghost use Prim.Native.Nat.{_*_, _≤_, min};
 ghost use lib.ListN.{length};
 ghost use Rattle.image_spec.specs.Judge.{ofBoth};
+ghost use Rattle.image_spec.specs.KeyPair.{keysUnder};
 ghost use Rattle.image_spec.specs.Model.{lentKeys};
 ghost use Rattle.image_reader_turn.specs.Turn as spec;
 ghost use Rattle.image_reader_turn.specs.Model as model;
@@ -33,7 +34,7 @@ pub fn turn<'a>(
     asked: usize,
     output: &mut [u8],
 ) -> BlocksRead
-    ensures { λ r. ⌜ (r, now (output .exit)) ≡ spec.turnUnder (spec.keysUnder (now (ewords .entry)) (now (cwords .entry)) rounds) progress (now (blocks .entry)) asked (now (output .entry)) ⌝ }
+    ensures { λ r. ⌜ (r, now (output .exit)) ≡ spec.turnUnder (keysUnder (now (ewords .entry)) (now (cwords .entry)) rounds) progress (now (blocks .entry)) asked (now (output .entry)) ⌝ }
 {
     if !may_ask(asked) {
         return blocks_read(progress, 0, 0, Stop::Asked);
@@ -66,7 +67,7 @@ fn read_under(
     output: &mut [u8],
 ) -> BlocksRead
     requires { ⌜ (k * 512 ≤ length (now blocks)) × (k * 480 ≤ length (now output)) × (k ≤ 128) ⌝ }
-    ensures { λ r. ⌜ (r, now (output .exit)) ≡ model.readInto (ofBoth (spec.keysUnder (now (ewords .entry)) (now (cwords .entry)) rounds)) progress (spec.cut k (now (blocks .entry))) (now (output .entry)) ⌝ }
+    ensures { λ r. ⌜ (r, now (output .exit)) ≡ model.readInto (ofBoth (keysUnder (now (ewords .entry)) (now (cwords .entry)) rounds)) progress (spec.cut k (now (blocks .entry))) (now (output .entry)) ⌝ }
 {
     let mut dwords = [0u32; 60];
     inverse_words(ewords, rounds.enc, &mut dwords);

@@ -31,7 +31,8 @@ use Rattle.image_reasons.proofs.Order.{all-false}
 use Rattle.image_spec.specs.Edition.{Edition}
 use Rattle.image_spec.specs.Sealed.{front, sealed, opened, checks, zeroAfter}
 use Rattle.image_spec.specs.Judge.{Keys, tests, judge}
-use Rattle.image_spec.specs.Model.{usable, lentMac, lentKeys}
+use Rattle.image_spec.specs.KeyPair.{usable}
+use Rattle.image_spec.specs.Model.{lentMac, lentKeys}
 use Rattle.image_spec.specs.declared.Rounds.{Rounds}
 use Rattle.image_spec.proofs.Schedules.{both-ways}
 

@@ -30,7 +30,8 @@ use Rattle.image_rules.proofs.Laws.{number-below}
 use Rattle.image_spec.specs.Edition.{Edition, tailOf}
 use Rattle.image_spec.specs.Sealed.{Mac, checks, zeroAfter, fillZero}
 use Rattle.image_spec.specs.Judge.{Keys, tests, judge, either, ofBoth}
-use Rattle.image_spec.specs.Model.{usable, filledOut, headRead, judged}
+use Rattle.image_spec.specs.KeyPair.{usable}
+use Rattle.image_spec.specs.Model.{filledOut, headRead, judged}
 use Rattle.image_spec.specs.declared.Rounds.{Rounds}
 use Rattle.image_spec.specs.declared.Judged.{Judged}
 use Rattle.image_progress.specs.declared.Progress.{Progress}

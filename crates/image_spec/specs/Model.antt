@@ -3,31 +3,22 @@
 use Prim.Native.Nat.{ℕ}
 use mathlib.Core.Bool.{Bool, _&&_, cond}
 use mathlib.Core.List.{List}
-use lib.Dec.{eqb, leb}
+use lib.Dec.{leb}
 use lib.ListN.{length}
 use Rattle.octets.specs.Octets.{over}
 use Rattle.octets.specs.Blocks.{BlockCipher}
 use Rattle.octets_block.specs.Blocks.{blockAt}
-use Rattle.aes_schedule.specs.Schedule.{roundCount, keyNumber}
-use Rattle.aes_schedule.specs.declared.Expanded.{Expanded}
 use Rattle.aes_spec.specs.Cipher.{standard}
 use Rattle.aes_spec.specs.Model.{equivalentCipher}
 use Rattle.cmac_spec.specs.Cmac.{cmacBy}
 use Rattle.image_layout.specs.Layout.{bodySize, blockSize, headOf}
 use Rattle.image_layout.specs.declared.Head.{Head}
 use Rattle.image_progress.specs.declared.Progress.{Progress}
-use Rattle.image_spec.specs.Sealed.{Mac, sealed, opened, zeroAfter}
+use Rattle.image_spec.specs.Sealed.{Mac, sealed, opened, zeroAfter, isBlock}
 use Rattle.image_spec.specs.Judge.{Keys, ofBoth}
 use Rattle.image_spec.specs.declared.Rounds.{Rounds}
 use Rattle.image_spec.specs.declared.Judged.{Judged}
-
--- keys can have given both schedules
-abbrev pub usable : Rounds → Bool
-usable n = roundCount (n .enc) && roundCount (n .chk)
-
--- both keys are taken, or the call is refused by 1
-abbrev pub bothTaken : (ekey ckey : Expanded) → Bool
-bothTaken ekey ckey = eqb (keyNumber (ekey .answer)) 0 && eqb (keyNumber (ckey .answer)) 0
+use Rattle.image_spec.specs.KeyPair.{usable}
 
 -- the check over a lent schedule and subkeys
 abbrev pub lentMac : (cwords : List ℕ) → (rounds : ℕ) → (key1 key2 : List ℕ) → Mac
@@ -39,10 +30,6 @@ lentKeys ewords dwords cwords key1 key2 n = record {
   mac = lentMac cwords (n .chk) key1 key2;
   usable = usable n;
 }
-
--- 512 bytes
-abbrev pub isBlock : List ℕ → Bool
-isBlock b = eqb (length b) blockSize
 
 -- the fill's test: no for what is no block
 unfoldable pub filledOut : BlockCipher → (len : ℕ) → List ℕ → Bool

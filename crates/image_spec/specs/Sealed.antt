@@ -9,9 +9,13 @@ use Rattle.octets.specs.Blocks.{BlockCipher}
 use Rattle.modes_spec.specs.Modes.{moded}
 use Rattle.modes_spec.specs.declared.Operation.the-variants.{CbcEncrypt, CbcDecrypt}
 use Rattle.cmac_spec.specs.Cmac.{cmac}
-use Rattle.image_layout.specs.Layout.{headSize, bodySize, checkAt, headOf, headBytes}
+use Rattle.image_layout.specs.Layout.{headSize, bodySize, blockSize, checkAt, headOf, headBytes}
 use Rattle.image_layout.specs.declared.Head.{Head}
 use Rattle.image_spec.specs.Edition.{Edition}
+
+-- 512 bytes
+abbrev pub isBlock : List ℕ → Bool
+isBlock b = eqb (length b) blockSize
 
 -- ---- the writer's side
 

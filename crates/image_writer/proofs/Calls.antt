@@ -20,7 +20,8 @@ use Rattle.image_limits.specs.Marks.{isEdition, markOf}
 use Rattle.image_limits.specs.Fits.{countFits, lengthFits}
 use Rattle.image_spec.specs.Edition.{noCheck, tailOf, edition}
 use Rattle.image_spec.specs.Sealed.{headFor}
-use Rattle.image_spec.specs.Model.{bothTaken, sealedOver}
+use Rattle.image_spec.specs.KeyPair.{bothTaken}
+use Rattle.image_spec.specs.Model.{sealedOver}
 use Rattle.image_spec.proofs.Agree.{sealed-same}
 use Rattle.image_writer_answer.specs.Answers.{writeRuled, lastFor}
 use Rattle.image_writer.specs.Calls.{writeAnswer, writeOutput}

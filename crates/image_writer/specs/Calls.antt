@@ -8,7 +8,7 @@ use Rattle.aes_schedule.specs.Schedule.{scheduleOf}
 use Rattle.aes_spec.specs.Cipher.{aesOf}
 use Rattle.image_spec.specs.Edition.{edition}
 use Rattle.image_spec.specs.Sealed.{blockFor}
-use Rattle.image_spec.specs.Model.{bothTaken}
+use Rattle.image_spec.specs.KeyPair.{bothTaken}
 use Rattle.image_writer_answer.specs.Answers.{writeRuled, lastFor}
 use Rattle.image_writer_answer.specs.declared.WriteAnswer.{WriteAnswer}
 use Rattle.image_writer_answer.specs.declared.WriteAnswer.the-variants.{Written, WriteKey, WriteCount, WriteNumber, WriteLength, WriteEdition, WriteRoom}

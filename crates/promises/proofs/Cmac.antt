@@ -15,7 +15,7 @@ use Rattle.aes_spec.specs.Cipher.{cipher, invCipher, encryptBlock, decryptBlock
 use Rattle.aes_spec.proofs.Padding.{cipher-padded, inv-cipher-padded}
 use Rattle.aes_spec.proofs.Aes.{key-lawful}
 use Rattle.cmac_spec.specs.Cmac.{doubled, key1, key2, cmac, cmacBy, SameOutside}
-use Rattle.cmac_run.specs.Model.{begun}
+use Rattle.cmac_run.specs.Running.{begun}
 use Rattle.cmac.specs.Calls.{checkedBy, checkOf, startedBy, startOf, fedWith, closeOf, fedParts}
 use Rattle.cmac.specs.declared.Record.{Record}
 use Rattle.cmac.specs.declared.Checked.{Checked}

@@ -7,6 +7,7 @@ pub mod Wrap
 pub mod Saes
 pub mod Ccm
 pub mod Image
+pub mod Receiver
 pub mod Text
 pub mod Dock
 pub mod Refusals

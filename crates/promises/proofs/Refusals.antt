@@ -1,15 +1,32 @@
 -- Switches and numbers of the definitions, in the words of documents 01 and 02: each is a law of the crate that holds the definition. Then
 -- that no call gives another number than those of its row in docs/REFUSALS.md, 'Which comes first'. Assumes nothing.
 use mathlib.Core.Path.{_≡_, refl, sym, subst}
-use mathlib.Core.Bool.{Bool, true, false, _||_, true≢false}
+use mathlib.Core.Bool.{Bool, true, false, _&&_, _||_, true≢false}
 use mathlib.Core.List.{List, [], _∷_}
 use mathlib.Core.Logic.{_⊎_, inl, inr}
-use Prim.Native.Nat.{ℕ, _/_, _≤_, min}
+use Prim.Native.Nat.{ℕ, _+_, _*_, _/_, _%_, _≤_, min}
 use native.Mathlib.Omega.{arith}
 use borrow.Author.Tests.{eqb-true, eqb-false}
 use denote.Ref.{now}
-use lib.Dec.{eqb}
-use lib.ListN.{length}
+use lib.Dec.{eqb, ltb, leb}
+use lib.ListN.{length, getD}
+use lib.Seq.{paste}
+use Rattle.octets.specs.Blocks.{BlockCipher}
+use Rattle.image_layout.specs.Layout.{headOf}
+use Rattle.image_layout.specs.declared.Head.{Head}
+use Rattle.image_limits.specs.Fits.{countFits}
+use Rattle.image_spec.specs.Sealed.{opened, fillZero}
+use Rattle.image_receiver_map.specs.Map.{worth, bit}
+use Rattle.image_receiver_map.proofs.Pins as maps
+use Rattle.image_receiver_answer.specs.Answers.{receiveNumber, beginNumber, beginValue, roomFor, firstTold, headerTests}
+use Rattle.image_receiver_answer.specs.declared.Receipt.{Receipt}
+use Rattle.image_receiver_answer.specs.declared.ReceiveAnswer.the-variants.{Received, NotABlock, NoRoom, Because, NotBelow, AlreadyHeld}
+use Rattle.image_receiver_answer.specs.declared.BeginAnswer.the-variants.{Begun, BeginKey, BeginCount, BeginRoom}
+use Rattle.image_receiver_answer.proofs.Pins as receipts
+use Rattle.image_receiver_block.specs.Receive.{countedWith, stored, lastAnswer}
+use Rattle.image_receiver_block.proofs.Pins as received
+use Rattle.image_receiver.specs.Calls.{full}
+use Rattle.image_receiver.proofs.Pins as receivers
 use Rattle.aes_schedule.specs.Schedule.{keyNumber}
 use Rattle.aes_schedule.specs.declared.KeyAnswer.{KeyAnswer}
 use Rattle.aes_schedule.specs.declared.KeyAnswer.the-variants.{Taken, KeyLength}
@@ -36,12 +53,13 @@ use Rattle.image_reader_tally.specs.declared.Stop.the-variants.{End, Asked, Len
 use Rattle.image_reader_tally.proofs.Pins.{stop-numbers}
 use Rattle.image_reader_turn.specs.Turn.{handled}
 use Rattle.image_reader_turn.proofs.Pins as turns
-use Rattle.image_reader.specs.Calls.{completionNumber, turnOf}
-use Rattle.image_reader.specs.declared.Completion.{Completion}
-use Rattle.image_reader.specs.declared.Completion.the-variants.{Complete, NotComplete}
+use Rattle.image_reader.specs.Calls.{turnOf}
+use Rattle.image_progress.specs.Progress.{completionNumber}
+use Rattle.image_progress.specs.declared.Completion.{Completion}
+use Rattle.image_progress.specs.declared.Completion.the-variants.{Complete, NotComplete}
 use Rattle.image_reader.specs.declared.Reader.{Reader}
 use Rattle.image_reader.specs.declared.Turn.{Turn}
-use Rattle.image_reader.proofs.Pins.{completion-numbers}
+use Rattle.image_progress.proofs.Pins.{completion-numbers}
 use Rattle.image_writer_answer.specs.Answers.{writeNumber}
 use Rattle.image_writer_answer.specs.declared.WriteAnswer.{WriteAnswer}
 use Rattle.image_writer_answer.specs.declared.WriteAnswer.the-variants.{Written, WriteKey, WriteCount, WriteNumber, WriteLength, WriteEdition, WriteRoom}
@@ -61,8 +79,17 @@ use Rattle.promises.proofs.Modes.{not-pieces-not-ofb}
 use Rattle.promises.proofs.Wrap.Calls.{wrap-as-told}
 use Rattle.promises.proofs.Ccm.Calls.{seal-as-told}
 use Rattle.promises.proofs.Image.Calls.{turn-is-the-readers}
-use Rattle.promises.proofs.Dock.{dock-schedule-is-new, dock-encrypt-is-encrypt, dock-decrypt-is-decrypt, dock-check-is-check, dock-check-start-is-start, dock-read-start-is-read-start, dock-ecb-encrypt-is-apply, dock-ecb-decrypt-is-apply, dock-cbc-encrypt-is-apply, dock-cbc-decrypt-is-apply, dock-cfb-encrypt-is-apply, dock-cfb-decrypt-is-apply, dock-ofb-is-apply, dock-write-is-write, dock-read-turn-is-read-turn, dock-read-complete-is-read-complete, dock-wrap-is-wrap, dock-unwrap-is-unwrap, dock-ccm-seal-is-seal, dock-ccm-open-is-open}
+use Rattle.promises.proofs.Dock.{dock-schedule-is-new, dock-encrypt-is-encrypt, dock-decrypt-is-decrypt, dock-check-is-check, dock-check-start-is-start, dock-read-start-is-read-start, dock-ecb-encrypt-is-apply, dock-ecb-decrypt-is-apply, dock-cbc-encrypt-is-apply, dock-cbc-decrypt-is-apply, dock-cfb-encrypt-is-apply, dock-cfb-decrypt-is-apply, dock-ofb-is-apply, dock-write-is-write, dock-read-turn-is-read-turn, dock-read-complete-is-read-complete, dock-wrap-is-wrap, dock-unwrap-is-unwrap, dock-ccm-seal-is-seal, dock-ccm-open-is-open, dock-receive-start-is-receive-start, dock-receive-is-receive, dock-receive-complete-is-receive-complete}
 use Rattle.promises.proofs.Lemmas.ImageCalls.{by-turn, reading-le}
+use Rattle.promises.proofs.Receiver.Words.{ReceiveSays}
+use Rattle.promises.proofs.Receiver.Calls.{receive-as-told, receive-block-as-told}
+use Rattle.image_spec.specs.Judge.{Keys}
+use Rattle.image_receiver_answer.specs.declared.ReceiveAnswer.{ReceiveAnswer}
+use Rattle.image_receiver_answer.specs.declared.BeginAnswer.{BeginAnswer}
+use Rattle.image_receiver.proofs.receive_start.Reads as receive-start
+use Rattle.image_receiver.proofs.receive.Reads as receive
+use Rattle.image_receiver.proofs.receive_complete.Reads as receive-complete
+use Rattle.image_receiver_block.proofs.receive_block.Reads as receive-block
 use Rattle.aes_schedule.proofs.KeySchedule.new.Reads as new
 use Rattle.aes.proofs.encrypt.Reads as encrypt
 use Rattle.aes.proofs.decrypt.Reads as decrypt
@@ -99,6 +126,9 @@ use Rattle.dock.proofs.dock_ofb.Reads as dock-ofb
 use Rattle.dock.proofs.dock_write.Reads as dock-write
 use Rattle.dock.proofs.dock_read_turn.Reads as dock-read-turn
 use Rattle.dock.proofs.dock_read_complete.Reads as dock-read-complete
+use Rattle.dock.proofs.dock_receive_start.Reads as dock-receive-start
+use Rattle.dock.proofs.dock_receive.Reads as dock-receive
+use Rattle.dock.proofs.dock_receive_complete.Reads as dock-receive-complete
 use Rattle.dock.proofs.dock_wrap.Reads as dock-wrap
 use Rattle.dock.proofs.dock_unwrap.Reads as dock-unwrap
 use Rattle.dock.proofs.dock_view_block.Reads as dock-view-block
@@ -123,6 +153,44 @@ all-but-ecb-chain = modes.all-but-ecb-chain
 
 pub ecb-chains-nothing : (chains EcbEncrypt ≡ false) × (chains EcbDecrypt ≡ false)
 ecb-chains-nothing = modes.ecb-chains-nothing
+
+-- ---- the receiver
+
+-- a block's bit is bit n mod 8, 0 the lowest, of byte n / 8, and a map has one bit a block
+pub bit-worths : (worth 0 ≡ 1) × (worth 1 ≡ 2) × (worth 2 ≡ 4) × (worth 3 ≡ 8) × (worth 4 ≡ 16) × (worth 5 ≡ 32) × (worth 6 ≡ 64) × (worth 7 ≡ 128)
+bit-worths = maps.worths
+
+pub bit-of-a-block : (m : List ℕ) (n : ℕ) → bit m n ≡ getD m (n / 8) 0 / worth (n % 8) % 2
+bit-of-a-block = maps.bit-of-a-block
+
+-- room is 480 bytes and one bit a block
+pub room-asks : (count store map : ℕ) → roomFor count store map ≡ (leb (480 * count) store && leb ((count + 7) / 8) map)
+room-asks = receipts.room-asks
+
+-- 20 is for the count itself too
+pub the-count-is-not-below-it : (r : Receipt) (h : Head) → countFits (h .count) ≡ true → h .count ≡ r .count → h .release ≡ r .release → h .number ≡ r .count → firstTold (headerTests r h) ≡ NotBelow
+the-count-is-not-below-it = receipts.the-count-is-not-below-it
+
+pub receive-numbers : (receiveNumber Received ≡ 0) × (receiveNumber NoRoom ≡ 4) × (receiveNumber NotABlock ≡ 6) × (receiveNumber NotBelow ≡ 20) × (receiveNumber AlreadyHeld ≡ 21)
+    × ((reason : Reason) → receiveNumber (Because reason) ≡ reasonNumber reason)
+receive-numbers = receipts.receive-numbers
+
+pub begin-numbers : (beginNumber Begun ≡ 0) × (beginNumber BeginKey ≡ 1) × (beginNumber BeginRoom ≡ 4) × ((count : ℕ) → (beginNumber (BeginCount count) ≡ 7) × (beginValue (BeginCount count) ≡ count ∷ []))
+begin-numbers = receipts.begin-numbers
+
+-- one block more, and its payload; its bytes go to 480 times its number; a bad copy of a held block gets its own number
+pub one-more-is-held : (r : Receipt) (len : ℕ) → (countedWith r len .held ≡ min (r .held + 1) 4294967295) × (countedWith r len .bytes ≡ min (r .bytes + len) 4294967295)
+one-more-is-held = received.one-more-is-held
+
+pub at-480-times-its-number : (ek : BlockCipher) (b store : List ℕ) → stored ek b store ≡ paste store (480 * headOf b .number) (opened ek b) 480
+at-480-times-its-number = received.at-480-times-its-number
+
+pub fifteen-comes-before-21 : (ek : BlockCipher) (b map : List ℕ) → fillZero ek b ≡ false → lastAnswer ek b map ≡ Because FillNotZero
+fifteen-comes-before-21 = received.fifteen-comes-first
+
+-- complete exactly when the count held equals the image's count, and that is at least 1
+pub complete-when-all-are-held : (r : Receipt) → full r ≡ (ltb 0 (r .count) && eqb (r .held) (r .count))
+complete-when-all-are-held = receivers.complete-when-all-are-held
 
 -- ---- the editions
 
@@ -182,8 +250,7 @@ the-values = reasons.reason-values
 
 -- the rows of 'Which comes first', and their numbers: the key schedule, one block, the whole check, the starts of a running check and of a
 -- reader (keyed); ECB, CBC and CFB (pieces); OFB; the writer; a turn, as a whole and then for each block; one block; completion; wrapping and
--- unwrapping; making a view, and showing a block or its check
--- unwrapping; sealing and opening a message
+-- unwrapping; making a view, and showing a block or its check; sealing and opening a message; the start of a receiver, and a block of it
 pub data Row : Type 0 where
   keyed : Row
   pieces : Row
@@ -198,6 +265,8 @@ pub data Row : Type 0 where
   showing : Row
   sealing : Row
   opening : Row
+  beginning : Row
+  receiving : Row
 
 abbrev pub ofBlock : List ℕ
 ofBlock = 16 ∷ 14 ∷ 7 ∷ 8 ∷ 9 ∷ 10 ∷ 12 ∷ 13 ∷ 15 ∷ []
@@ -216,6 +285,8 @@ order viewing = 6 ∷ []
 order showing = 20 ∷ []
 order sealing = 1 ∷ 23 ∷ 4 ∷ []
 order opening = 1 ∷ 23 ∷ 4 ∷ 24 ∷ []
+order beginning = 1 ∷ 7 ∷ 4 ∷ []
+order receiving = 6 ∷ 4 ∷ 14 ∷ 7 ∷ 9 ∷ 10 ∷ 20 ∷ 12 ∷ 13 ∷ 15 ∷ 21 ∷ []
 
 -- some call of a row gives this number; of a turn as C and Rust link it, the number of the whole turn and the reason of a block stand apart
 pub data Gives : Row → ℕ → Type 0 where
@@ -232,6 +303,10 @@ pub data Gives : Row → ℕ → Type 0 where
   by-turn-under : (κs : _) (a : _) (r : _) (s : _) → turn.Post κs a r s → Gives turning (stopNumber (r .stop))
   by-judge : (κs : _) (a : _) (r : _) (s : _) → judge.Post κs a r s → Gives judging (verdictNumber (r .verdict))
   by-read-complete : (κs : _) (a : _) (r : _) (s : _) → read-complete.Post κs a r s → Gives completing (completionNumber r)
+  by-receive-start : (κs : _) (a : _) (r : _) (s : _) → receive-start.Post κs a r s → Gives beginning (beginNumber (r .answer))
+  by-receive : (κs : _) (a : _) (r : _) (s : _) → receive.Post κs a r s → Gives receiving (receiveNumber (r .answer))
+  by-receive-block : (κs : _) (a : _) (r : _) (s : _) → receive-block.Post κs a r s → Gives receiving (receiveNumber (r .answer))
+  by-receive-complete : (κs : _) (a : _) (r : _) (s : _) → receive-complete.Post κs a r s → Gives completing (completionNumber r)
   by-wrap : (κs : _) (a : _) (r : _) (s : _) → wrap.Post κs a r s → Gives wrapping (wrapNumber r)
   by-unwrap : (κs : _) (a : _) (r : _) (s : _) → unwrap.Post κs a r s → Gives unwrapping (wrapNumber r)
   by-made-number : (κs : _) (a : _) (r : _) (s : _) → made-number.Post κs a r s → Gives viewing r
@@ -259,6 +334,9 @@ pub data Gives : Row → ℕ → Type 0 where
   by-dock-read-turn : (κs : _) (a : _) (r : _) (s : _) → dock-read-turn.Post κs a r s → Gives turning (r .number)
   by-dock-read-turn-reason : (κs : _) (a : _) (r : _) (s : _) → dock-read-turn.Post κs a r s → Gives judging (r .reason)
   by-dock-read-complete : (κs : _) (a : _) (r : _) (s : _) → dock-read-complete.Post κs a r s → Gives completing r
+  by-dock-receive-start : (κs : _) (a : _) (r : _) (s : _) → dock-receive-start.Post κs a r s → Gives beginning (r .number)
+  by-dock-receive : (κs : _) (a : _) (r : _) (s : _) → dock-receive.Post κs a r s → Gives receiving (r .number)
+  by-dock-receive-complete : (κs : _) (a : _) (r : _) (s : _) → dock-receive-complete.Post κs a r s → Gives completing r
   by-dock-wrap : (κs : _) (a : _) (r : _) (s : _) → dock-wrap.Post κs a r s → Gives wrapping r
   by-dock-unwrap : (κs : _) (a : _) (r : _) (s : _) → dock-unwrap.Post κs a r s → Gives unwrapping r
   by-dock-view-block-made : (κs : _) (a : _) (r : _) (s : _) → dock-view-block.Post κs a r s → Gives viewing (r .made)
@@ -365,6 +443,31 @@ unfolding among
 of-completion Complete = refl
 of-completion NotComplete = refl
 
+of-begin : (r : BeginAnswer) → among (0 ∷ order beginning) (beginNumber r) ≡ true
+unfolding among
+of-begin Begun = refl
+of-begin BeginKey = refl
+of-begin (BeginCount count) = refl
+of-begin BeginRoom = refl
+
+-- the reasons 8 and 16 have no row
+of-receive : (k : Keys) (q : Receipt) (b store map : List ℕ) (r : ReceiveAnswer) → ReceiveSays k q b store map r → among (0 ∷ order receiving) (receiveNumber r) ≡ true
+unfolding among
+of-receive k q b store map Received t = refl
+of-receive k q b store map NotABlock t = refl
+of-receive k q b store map NoRoom t = refl
+of-receive k q b store map (Because CheckWrong) t = refl
+of-receive k q b store map (Because (Count v)) t = refl
+of-receive k q b store map (Because (OtherCount v)) t = refl
+of-receive k q b store map (Because (OtherRelease v)) t = refl
+of-receive k q b store map NotBelow t = refl
+of-receive k q b store map (Because (Length v)) t = refl
+of-receive k q b store map (Because (Reserved v)) t = refl
+of-receive k q b store map (Because FillNotZero) t = refl
+of-receive k q b store map (Because (Number v)) t = absurd (t .0)
+of-receive k q b store map (Because AfterLast) t = absurd (t .0)
+of-receive k q b store map AlreadyHeld t = refl
+
 of-wrap : (r : WrapAnswer) → (wrapNumber r ≡ 19 → ⊥) → among (0 ∷ order wrapping) (wrapNumber r) ≡ true
 unfolding among
 of-wrap WrapDone n = refl
@@ -432,6 +535,10 @@ no-call-gives-another c n (by-read-turn κs a r s p) = found _ _ (of-stop (r .st
 no-call-gives-another c n (by-turn-under κs a r s p) = found _ _ (of-stop (r .stop))
 no-call-gives-another c n (by-judge κs a r s p) = found _ _ (of-verdict (r .verdict))
 no-call-gives-another c n (by-read-complete κs a r s p) = found _ _ (of-completion r)
+no-call-gives-another c n (by-receive-start κs a r s p) = found _ _ (of-begin (r .answer))
+no-call-gives-another c n (by-receive κs a r s p) = found (0 ∷ order receiving) (receiveNumber (r .answer)) (of-receive _ _ _ _ _ (r .answer) (receive-as-told κs a r s p))
+no-call-gives-another c n (by-receive-block κs a r s p) = found (0 ∷ order receiving) (receiveNumber (r .answer)) (of-receive _ _ _ _ _ (r .answer) (receive-block-as-told κs a r s p))
+no-call-gives-another c n (by-receive-complete κs a r s p) = found _ _ (of-completion r)
 no-call-gives-another c n (by-wrap κs a r s p) = found _ _ (of-wrap r (wrap-as-told κs a r s p .1))
 no-call-gives-another c n (by-unwrap κs a r s p) = found _ _ (of-unwrap r)
 no-call-gives-another c n (by-made-number κs a r s p) = found (0 ∷ order viewing) r (rw p (of-made _))
@@ -459,6 +566,11 @@ no-call-gives-another c n (by-dock-write κs a r s p) = let b = dock-write-is-wr
 no-call-gives-another c n (by-dock-read-turn κs a r s p) = let b = dock-read-turn-is-read-turn κs a r s p in found (0 ∷ order turning) (r .number) (rw (b .2) (of-told (b .0 .stop) .0))
 no-call-gives-another c n (by-dock-read-turn-reason κs a r s p) = let b = dock-read-turn-is-read-turn κs a r s p in found (0 ∷ order judging) (r .reason) (rw (b .2) (of-told (b .0 .stop) .1))
 no-call-gives-another c n (by-dock-read-complete κs a r s p) = let b = dock-read-complete-is-read-complete κs a r s p in found (0 ∷ order completing) r (rw (b .2) (of-completion (b .0)))
+no-call-gives-another c n (by-dock-receive-start κs a r s p) = let b = dock-receive-start-is-receive-start κs a r s p in found (0 ∷ order beginning) (r .number) (rw (b .2) (of-begin (b .0 .answer)))
+no-call-gives-another c n (by-dock-receive κs a r s p) =
+    let b = dock-receive-is-receive κs a r s p in
+    found (0 ∷ order receiving) (r .number) (rw (b .2) (of-receive _ _ _ _ _ (b .0 .answer) (receive-as-told κs a (b .0) s (b .1))))
+no-call-gives-another c n (by-dock-receive-complete κs a r s p) = let b = dock-receive-complete-is-receive-complete κs a r s p in found (0 ∷ order completing) r (rw (b .2) (of-completion (b .0)))
 no-call-gives-another c n (by-dock-wrap κs a r s p) = let b = dock-wrap-is-wrap κs a r s p in found (0 ∷ order wrapping) r (rw (b .2) (of-wrap (b .0) (wrap-as-told κs a (b .0) s (b .1) .1)))
 no-call-gives-another c n (by-dock-unwrap κs a r s p) = let b = dock-unwrap-is-unwrap κs a r s p in found (0 ∷ order unwrapping) r (rw (b .2) (of-unwrap (b .0)))
 no-call-gives-another c n (by-dock-view-block-made κs a r s p) = found (0 ∷ order viewing) (r .made) (rw p (of-view 0 512 (a .0) (a .1 .0) .0))
@@ -483,6 +595,8 @@ no-11 viewing = refl
 no-11 showing = refl
 no-11 sealing = refl
 no-11 opening = refl
+no-11 beginning = refl
+no-11 receiving = refl
 
 -- and 11 is in no row
 pub no-call-gives-11 : (c : Row) → Gives c 11 → ⊥

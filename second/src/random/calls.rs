@@ -2,6 +2,7 @@
 
 use super::messages::{open_words, seal_words};
 use super::plan::Plan;
+use super::receives::{receive_start_words, receive_words, Receiving};
 use super::rng::Rng;
 use super::views::view_words;
 use super::wraps::{unwrap_words, wrap_words};
@@ -46,6 +47,9 @@ pub const CALLS: &[Call] = &[
     call("read-start", 2, start_words),
     call("read-turn", 10, turn_words),
     call("read-complete", 2, no_words),
+    call("receive-start", 2, receive_start_words),
+    call("receive", 12, receive_words),
+    call("receive-complete", 2, no_words),
     call("wrap", 2, wrap_words),
     call("unwrap", 3, unwrap_words),
     call("view-block", 2, view_words),
@@ -64,6 +68,8 @@ pub struct Draw {
     pub expected: u32,
     /// The check of the block that it accepted last.
     pub last: Block,
+    /// The image that is received.
+    pub receiving: Receiving,
     /// The last block of the turn before.
     offered: Vec<u8>,
 }
@@ -75,6 +81,7 @@ impl Draw {
             plan: Plan::default(),
             expected: 0,
             last: NO_CHECK,
+            receiving: Receiving::default(),
             offered: Vec::new(),
         }
     }

@@ -54,8 +54,31 @@ impl Plan {
         }
     }
 
+    /// An image of edition 1, seldom of edition 2, which no receiver reads.
+    pub fn received(rng: &mut Rng, count: u32) -> Plan {
+        let edition = if rng.percent(5) {
+            Edition::Second
+        } else {
+            Edition::First
+        };
+        Plan {
+            count,
+            mark: edition.mark(),
+            ..Plan::drawn(rng)
+        }
+    }
+
+    /// One block, damaged as often as those of turns.
+    pub fn offered(&self, rng: &mut Rng, number: u32) -> Vec<u8> {
+        self.block(rng, number, NO_CHECK)
+    }
+
     pub fn count(&self) -> u32 {
         self.count
+    }
+
+    pub fn release(&self) -> u32 {
+        self.release
     }
 
     /// Blocks one after another, from the number given, for a reader whose last check is the one given.

@@ -1,8 +1,8 @@
-//! What is held from line to line: a running check and a reader. Before the first start, and after a start that was refused, these are
-//! the zero record and the zero reader. The safe types have no such values, so they come from `dock::sys`, and so do the calls on them.
+//! What is held from line to line: a running check, a reader and a receiver. Before the first start, and after a start that was refused,
+//! these are the zero record, the zero reader and the zero receiver. The safe types have no such values, so they come from `dock::sys`, and so do the calls on them.
 
 use crate::lent::{canary, stop, CANARY};
-use dock::{sys, Check, Reader, Refusal, Stop, Turn};
+use dock::{sys, Check, Reader, Receiver, Refusal, Refused, Stop, Turn};
 
 /// A record is fed on the spot, so it stands between canaries of its own.
 #[repr(C)]
@@ -157,4 +157,81 @@ fn zero_turn(
         bytes: answer.bytes,
         stop,
     })
+}
+
+pub enum Receiving {
+    Keyed(Receiver),
+    Zero(sys::Receiver),
+}
+
+impl Receiving {
+    pub fn of(started: Result<Receiver, Refused>) -> Receiving {
+        match started {
+            Ok(receiver) => Receiving::Keyed(receiver),
+            Err(_) => Receiving::Zero(sys::Receiver::ZERO),
+        }
+    }
+
+    pub fn held(&self) -> u32 {
+        match self {
+            Receiving::Keyed(receiver) => receiver.held(),
+            Receiving::Zero(receiver) => receiver.receipt.held,
+        }
+    }
+
+    /// The number of the answer, and the value found.
+    pub fn receive(
+        &mut self,
+        block: &[u8],
+        store: &mut [u8],
+        map: &mut [u8],
+    ) -> (u32, Option<u32>) {
+        match self {
+            Receiving::Keyed(receiver) => {
+                let before = (receiver.held(), receiver.bytes());
+                let received = receiver.receive(block, store, map);
+                let refused = match received {
+                    Ok(()) => return (0, None),
+                    Err(refused) => refused,
+                };
+                if (receiver.held(), receiver.bytes()) != before {
+                    stop("a refused block changes a receiver");
+                }
+                (refused.reason.number(), refused.value)
+            }
+            Receiving::Zero(receiver) => zero_receive(receiver, block, store, map),
+        }
+    }
+
+    /// The number of the answer.
+    pub fn complete(&self) -> u32 {
+        match self {
+            Receiving::Keyed(receiver) => crate::number_of(&receiver.complete()),
+            // SAFETY: the receiver is passed by value, and any bytes in it have an answer.
+            Receiving::Zero(receiver) => unsafe { sys::dock_receive_complete(*receiver) },
+        }
+    }
+}
+
+fn zero_receive(
+    receiver: &mut sys::Receiver,
+    block: &[u8],
+    store: &mut [u8],
+    map: &mut [u8],
+) -> (u32, Option<u32>) {
+    // SAFETY: pointers and lengths are those of slices, store and map are lent by `&mut`, and any bytes in a receiver have an answer.
+    let answer = unsafe {
+        sys::dock_receive(
+            *receiver,
+            block.as_ptr(),
+            block.len(),
+            store.as_mut_ptr(),
+            store.len(),
+            map.as_mut_ptr(),
+            map.len(),
+        )
+    };
+    *receiver = answer.receiver;
+    let holds = (7..=13).contains(&answer.number);
+    (answer.number, Some(answer.value).filter(|_| holds))
 }

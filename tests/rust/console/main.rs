@@ -5,8 +5,8 @@ mod held;
 mod lent;
 mod words;
 
-use dock::{Check, Reader, Refusal, Turn, View};
-use held::{Reading, Running};
+use dock::{Check, Reader, Receiver, Refusal, Refused, Turn, View};
+use held::{Reading, Receiving, Running};
 use lent::{stop, Lent};
 use std::env;
 use std::io::{self, BufRead, BufWriter, Read, Write};
@@ -20,6 +20,7 @@ struct Console {
     longest: usize,
     running: Running,
     reading: Reading,
+    receiving: Receiving,
 }
 
 fn input(word: &[u8]) -> Option<Lent> {
@@ -69,6 +70,9 @@ impl Console {
             (b"read-start", [encryption, check]) => self.read_start(encryption, check),
             (b"read-turn", [asked, blocks, room]) => self.read_turn(asked, blocks, room),
             (b"read-complete", []) => Some(self.reading.complete().to_string()),
+            (b"receive-start", words) => self.receive_start(words),
+            (b"receive", [block, store, map]) => self.receive(block, store, map),
+            (b"receive-complete", []) => Some(self.receiving.complete().to_string()),
             (b"wrap", [key, data, room]) => wrapping(dock::wrap, key, data, room),
             (b"unwrap", [key, data, room]) => wrapping(dock::unwrap, key, data, room),
             (b"view-block", [image, place]) => view(|v, at| v.block(at), 0, image, place),
@@ -104,6 +108,43 @@ impl Console {
         let (asked, blocks, mut room) = (number(asked)?, input(blocks)?, output(room)?);
         let turn = self.reading.turn(&blocks, asked, room.lend());
         Some(format!("{} {}", turn_words(&turn), hex(&room)))
+    }
+
+    fn receive_start(&mut self, words: &[&[u8]]) -> Option<String> {
+        let (encryption_key, check_key, count, release, store, map) = match words {
+            [ekey, ckey, count, release, store, map] => (ekey, ckey, count, release, store, map),
+            _ => return None,
+        };
+        let (encryption_key, check_key) = (input(encryption_key)?, input(check_key)?);
+        let (count, release) = (number(count)?, number(release)?);
+        let (store, mut map) = (input(store)?, output(map)?);
+        let started = Receiver::start(
+            &encryption_key,
+            &check_key,
+            count,
+            release,
+            &store,
+            map.lend(),
+        );
+        let refused = started.as_ref().err();
+        if refused.and_then(|refused| refused.value).unwrap_or(count) != count {
+            stop("the value of a start is not its count");
+        }
+        let number = refused.map_or(0, |refused| refused.reason.number());
+        self.receiving = Receiving::of(started);
+        Some(format!("{number} {} {}", hex(&store), hex(&map)))
+    }
+
+    fn receive(&mut self, block: &[u8], store: &[u8], map: &[u8]) -> Option<String> {
+        let (block, mut store, mut map) = (input(block)?, output(store)?, output(map)?);
+        let (number, value) = self.receiving.receive(&block, store.lend(), map.lend());
+        let value = value.map_or("-".to_string(), |value| value.to_string());
+        let held = self.receiving.held();
+        Some(format!(
+            "{number} {value} {held} {} {}",
+            hex(&store),
+            hex(&map)
+        ))
     }
 }
 
@@ -312,6 +353,10 @@ fn main() -> io::Result<()> {
         longest: longest.unwrap_or(LONGEST),
         running: Running::of(Err(Refusal::KeyLength)),
         reading: Reading::of(Err(Refusal::KeyLength)),
+        receiving: Receiving::of(Err(Refused {
+            reason: Refusal::KeyLength,
+            value: None,
+        })),
     };
     let (mut from, mut to) = (io::stdin().lock(), BufWriter::new(io::stdout().lock()));
     let mut line = Vec::new();

@@ -1,8 +1,8 @@
 //! What the package promises besides the calls of `dock.h`: checks are verified, key material is overwritten when it is dropped, no
-//! check and no reader is without a key, a view goes through its blocks, and a refusal is an error like others. It stops at the first
+//! check, reader or receiver is without a key, a view goes through its blocks, blocks are received in any order, and a refusal is an error like others. It stops at the first
 //! that does not hold.
 
-use dock::{Check, Reader, Refusal, View};
+use dock::{Check, Reader, Receiver, Refusal, Refused, View};
 use std::mem::{size_of, MaybeUninit};
 use std::ptr;
 
@@ -78,6 +78,10 @@ fn drops() -> Result<(), Refusal> {
     let reader = Reader::start(&KEY, &KEY)?;
     overwritten(reader.clone(), "a clone of a reader");
     overwritten(reader, "a reader");
+    let receiver = Receiver::start(&KEY, &KEY, 1, 7, &[0; 480], &mut [0; 1]);
+    let receiver = receiver.map_err(|refused| refused.reason)?;
+    overwritten(receiver.clone(), "a clone of a receiver");
+    overwritten(receiver, "a receiver");
     Ok(())
 }
 
@@ -119,13 +123,59 @@ fn views() -> Result<(), Refusal> {
     Ok(())
 }
 
+/// Three blocks backwards, one of them twice; then a second receiver goes on where the first stood, on a map and a store that were kept.
+fn receives() -> Result<(), Refusal> {
+    let payloads: [&[u8]; 3] = [&[1; 480], &[2; 480], b"the end"];
+    let mut blocks = [[0; 512]; 3];
+    for (number, (payload, block)) in (0..).zip(payloads.iter().zip(&mut blocks)) {
+        let numbers = dock::Numbers {
+            number,
+            count: 3,
+            release: 7,
+            edition: 1,
+        };
+        dock::write(&KEY, &KEY, numbers, [0; 16], payload, block)?;
+    }
+    let (mut store, mut map) = ([9; 3 * 480], [0xff; 2]);
+    let start = |map: &mut [u8]| Receiver::start(&KEY, &KEY, 3, 7, &[0; 3 * 480], map);
+    let mut receiver = start(&mut map).map_err(|refused| refused.reason)?;
+    assert_eq!(map, [0, 0xff]);
+    for block in [&blocks[2], &blocks[1]] {
+        assert_eq!(receiver.receive(block, &mut store, &mut map), Ok(()));
+        let held = Refused {
+            reason: Refusal::AlreadyHeld,
+            value: None,
+        };
+        assert_eq!(receiver.receive(block, &mut store, &mut map), Err(held));
+        assert_eq!(receiver.complete(), Err(Refusal::NotComplete));
+    }
+    let mut resumed = start(&mut [0; 1])
+        .map_err(|refused| refused.reason)?
+        .resumed(receiver.held(), receiver.bytes());
+    assert_eq!(resumed.receive(&blocks[0], &mut store, &mut map), Ok(()));
+    resumed.complete()?;
+    assert_eq!(map, [7, 0xff]);
+    assert_eq!(store[..resumed.bytes() as usize], payloads.concat());
+    let short = start(&mut []).map_err(|refused| refused.reason);
+    assert_eq!(short.err(), Some(Refusal::OutputShort));
+    let none = Receiver::start(&KEY, &KEY, 0, 7, &[], &mut []).err();
+    let count = Refused {
+        reason: Refusal::CountRange,
+        value: Some(0),
+    };
+    assert_eq!(none, Some(count));
+    Ok(())
+}
+
 fn main() -> Result<(), Refusal> {
     <Check as NoDefault<_>>::holds();
     <Reader as NoDefault<_>>::holds();
+    <Receiver as NoDefault<_>>::holds();
     verify()?;
     drops()?;
     views()?;
+    receives()?;
     error();
-    println!("package: checks are verified, key material is overwritten when it is dropped, and views show the image itself");
+    println!("package: checks are verified, key material is overwritten when it is dropped, views show the image itself, and blocks are received in any order");
     Ok(())
 }

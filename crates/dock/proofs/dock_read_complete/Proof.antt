@@ -1,5 +1,5 @@
 use mathlib.Core.Path.{ap, _∙_}
-use Rattle.image_reader.specs.Calls.{completionNumber}
+use Rattle.image_progress.specs.Progress.{completionNumber}
 use borrow.Author.Needs.{needs}
 use Rattle.dock.proofs.dock_read_complete.Statement.{statement}
 use Rattle.dock.proofs.dock_read_complete.Tie as tie

@@ -1,6 +1,7 @@
 use mathlib.Core.Path.{sym, _∙_}
 use Rattle.image_spec.specs.Sealed.{checks}
-use Rattle.image_spec.specs.Model.{usable, lentMac}
+use Rattle.image_spec.specs.KeyPair.{usable}
+use Rattle.image_spec.specs.Model.{lentMac}
 use Rattle.image_spec.proofs.Sizes.{mac-sized}
 use Rattle.image_spec.proofs.Judging.{flip, unusable-enc, unusable-chk, usable-both, checks-by, checks-none}
 use borrow.Author.Needs.{needs}

@@ -1,6 +1,6 @@
 use Rattle.image_reader_turn.proofs.Calls.{turn-asked, turn-lent, turn-room, turn-read, asked-most}
 use Rattle.image_spec.proofs.Judging.{flip}
-use Rattle.image_reader_turn.specs.Turn.{keysUnder}
+use Rattle.image_spec.specs.KeyPair.{keysUnder}
 use Rattle.image_reader_tally.specs.declared.BlocksRead.{BlocksRead}
 use borrow.Author.Tests.{eq-eqb, ne-eqb, lt-ltb, le-ltb}
 use lib.ListN.{length}

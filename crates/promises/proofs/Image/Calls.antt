@@ -13,7 +13,7 @@ use Rattle.aes_spec.specs.Model.{equivalentCipher}
 use Rattle.cmac_spec.specs.Cmac.{SameOutside}
 use Rattle.image_limits.specs.Marks.{selected}
 use Rattle.image_reasons.specs.Reasons.{verdictNumber}
-use Rattle.image_progress.specs.Progress.{closed}
+use Rattle.image_progress.specs.Progress.{completionNumber, closed}
 use Rattle.image_progress.specs.declared.Progress.{Progress}
 use Rattle.image_reasons.specs.declared.Reason.the-variants.{AfterLast, CheckWrong}
 use Rattle.image_reasons.specs.declared.Reason.{Reason}
@@ -22,13 +22,15 @@ use Rattle.image_spec.specs.Edition.{Edition}
 use Rattle.image_spec.specs.Sealed.{filled}
 use Rattle.image_spec.specs.Judge.{Keys, either}
 use Rattle.image_spec.specs.declared.Rounds.{Rounds}
-use Rattle.image_spec.specs.Model.{usable, lentMac, lentKeys, isBlock, openedOver, sealedOver}
+use Rattle.image_spec.specs.KeyPair.{usable}
+use Rattle.image_spec.specs.Sealed.{isBlock}
+use Rattle.image_spec.specs.Model.{lentMac, lentKeys, openedOver, sealedOver}
 use Rattle.image_spec.proofs.Sizes.{mac-sized}
 use Rattle.image_spec.proofs.Judging.{checks-none, verdict-read, head-read}
 use Rattle.image_spec.proofs.Opening.{fill-of-none}
 use Rattle.image_writer_answer.specs.Answers.{writeNumber, lastFor}
 use Rattle.image_writer.specs.Calls.{writeOutput}
-use Rattle.image_reader.specs.Calls.{completionNumber, keysOf, turnAfter, turnOf}
+use Rattle.image_reader.specs.Calls.{keysOf, turnAfter, turnOf}
 use Rattle.image_reader_tally.specs.Tally.{stopNumber}
 use Rattle.image_reader_turn.specs.Turn.{handled}
 use Rattle.image_reader_tally.specs.declared.BlocksRead.{BlocksRead}
@@ -71,7 +73,7 @@ use Rattle.image_reader.proofs.read_turn.Reads as read-turn
 use Rattle.image_reader_turn.proofs.turn.Reads as turn
 use Rattle.image_writer_answer.proofs.WriteAnswer.number.Reads as write-number
 use Rattle.image_reader_tally.proofs.Stop.number.Reads as stop-number
-use Rattle.image_reader.proofs.Completion.number.Reads as completion-number
+use Rattle.image_progress.proofs.Completion.number.Reads as completion-number
 use Rattle.image_reasons.proofs.Reason.number.Reads as reason-number
 use Rattle.image_reasons.proofs.Reason.value.Reads as reason-value
 

@@ -36,7 +36,7 @@ use Rattle.image_reader.specs.declared.Turn.{Turn}
 use Rattle.image_reader.proofs.read_turn.Reads as read-turn
 use Rattle.image_writer.proofs.write.Reads as write
 use Rattle.image_reader.specs.declared.Reader.{Reader}
-use Rattle.image_reader.specs.declared.Completion.the-variants.{Complete, NotComplete}
+use Rattle.image_progress.specs.declared.Completion.the-variants.{Complete, NotComplete}
 use Rattle.promises.proofs.Image.Words.{Proper, Blocks, plains, parts, lengths, partsIn, AllFilled, afterWrite, Wrote, blocks, written, image, given, Lending, turnBy, AllFair, offered, concat, lendEach, AllFew, readerAfter, AllAccepted, handedOut, counted}
 use Rattle.promises.proofs.Aes.Keys.{KeyTaken}
 use Rattle.promises.proofs.Lemmas.ImageWhole.{Passes, passes-front, no-check-octets, image-blocks, image-parts, image-passes}

@@ -46,7 +46,7 @@ use Rattle.image_reader.specs.declared.Reader.{Reader}
 use Rattle.image_reader_tally.specs.declared.Stop.{Stop}
 use Rattle.image_reader_tally.specs.declared.Stop.the-variants.{End, Asked, Lent, Room, At}
 use Rattle.image_reader.specs.declared.Turn.{Turn}
-use Rattle.image_reader.specs.declared.Completion.the-variants.{Complete, NotComplete}
+use Rattle.image_progress.specs.declared.Completion.the-variants.{Complete, NotComplete}
 use Rattle.promises.proofs.Image.Words.{Proper, SealedOn, Met, Row, Says, unchecked, AllMet, Blocks, payload, plains, parts, AllFilled, Fit, WriteSays, afterWrite, Wrote, blocks, image, inState, readerOf, Waits, moved, FromStart, Sound, readingOf, given, Fair, StartSays, StopSays, CompletionSays, Whole, Lending, AllFair, offered, concat, lendEach, AllFew, readerAfter, AllAccepted, handedOut, counted, andThen}
 use Rattle.promises.proofs.Aes.Keys.{KeyTaken}
 use Rattle.promises.proofs.Lemmas.ImageSealed.{sealed-size, sealed-bytes, sealed-checks, sealed-opened, sealed-head, sealed-fill}

@@ -22,7 +22,7 @@ use Rattle.image_reasons.specs.declared.Reason.{Reason}
 use Rattle.image_reasons.specs.declared.Verdict.{Verdict}
 use Rattle.image_reasons.specs.declared.Verdict.the-variants.{Accepted, Refused}
 use Rattle.image_spec.specs.Sealed.{opened}
-use Rattle.image_reader_turn.specs.Turn.{keysUnder}
+use Rattle.image_spec.specs.KeyPair.{keysUnder}
 use Rattle.image_reader.specs.declared.Reader.{Reader}
 use Rattle.image_reader.specs.declared.Turn.{Turn}
 use Rattle.image_reader.specs.Calls.{keysOf, turnOf}

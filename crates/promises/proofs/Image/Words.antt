@@ -32,8 +32,8 @@ use Rattle.image_reader.specs.declared.Reader.{Reader}
 use Rattle.image_reader_tally.specs.declared.Stop.{Stop}
 use Rattle.image_reader_tally.specs.declared.Stop.the-variants.{End, Asked, Lent, Room, At}
 use Rattle.image_reader.specs.declared.Turn.{Turn}
-use Rattle.image_reader.specs.declared.Completion.{Completion}
-use Rattle.image_reader.specs.declared.Completion.the-variants.{Complete, NotComplete}
+use Rattle.image_progress.specs.declared.Completion.{Completion}
+use Rattle.image_progress.specs.declared.Completion.the-variants.{Complete, NotComplete}
 pub use Rattle.promises.proofs.Aes.Keys.{KeyTaken}
 
 -- ---- editions

@@ -28,7 +28,7 @@ use Rattle.image_layout.proofs.Laws.{Wide}
 use Rattle.image_spec.specs.Edition.{tailOf, edition}
 use Rattle.image_spec.specs.Sealed.{headFor, opened}
 use Rattle.image_spec.specs.Judge.{Keys, either, fresh, taken}
-use Rattle.image_spec.specs.Model.{bothTaken}
+use Rattle.image_spec.specs.KeyPair.{bothTaken}
 use Rattle.image_reader_turn.specs.Turn.{Reading, readBlocks, cut, handled, whole, blocksRead, turnUnder}
 use Rattle.image_writer_answer.specs.Answers.{lastFor, writeRuled}
 use Rattle.image_writer.specs.Calls.{blockOf, writeAnswer, writeOutput}
@@ -55,7 +55,7 @@ use Rattle.promises.proofs.Lemmas.ImageTurn.{ran-accepted, out-length, 
 abbrev pub keysUnder : (ekey ckey : List ℕ) → Keys
 keysUnder ekey ckey = record { enc = aesOf ekey; mac = cmac (aesOf ckey); usable = true }
 
-key-known : (key : List ℕ) → KeyTaken key → roundCount (scheduleOf sBox key .schedule .rounds) ≡ true
+pub key-known : (key : List ℕ) → KeyTaken key → roundCount (scheduleOf sBox key .schedule .rounds) ≡ true
 unfolding scheduleOf schedule.taken schedule.refused
 key-known key = each (eqb (length key) 16) (eqb (length key) 24) (eqb (length key) 32)
   where
@@ -68,12 +68,12 @@ key-known key = each (eqb (length key) 16) (eqb (length key) 24) (eqb (length ke
     each false false true e = refl
     each false false false e = absurd (omega arith)
 
-both-taken : (e c : Expanded) → bothTaken e c ≡ true → (keyNumber (e .answer) ≡ 0) × (keyNumber (c .answer) ≡ 0)
+pub both-taken : (e c : Expanded) → bothTaken e c ≡ true → (keyNumber (e .answer) ≡ 0) × (keyNumber (c .answer) ≡ 0)
 both-taken e c h =
     let a = and-true (eqb (keyNumber (e .answer)) 0) (eqb (keyNumber (c .answer)) 0) h in
     (eqb-true (keyNumber (e .answer)) 0 (a .0), eqb-true (keyNumber (c .answer)) 0 (a .1))
 
-taken-both : (e c : Expanded) → keyNumber (e .answer) ≡ 0 → keyNumber (c .answer) ≡ 0 → bothTaken e c ≡ true
+pub taken-both : (e c : Expanded) → keyNumber (e .answer) ≡ 0 → keyNumber (c .answer) ≡ 0 → bothTaken e c ≡ true
 taken-both e c h g = rw (h, g)
 
 -- a start whose answer is 0 took both keys

@@ -51,7 +51,7 @@ module _ (k : Keys) (rule : Rule) where
 
 -- ---- lengths by their place
 
-fits-cases : (number count len : ℕ) → lengthFits number count len ≡ true
+pub fits-cases : (number count len : ℕ) → lengthFits number count len ≡ true
     → (number + 1 ≡ count → (count ≡ 1 → ⊥) → 0 < len) × ((number + 1 ≡ count → ⊥) → len ≡ 480)
 unfolding lengthFits
 fits-cases number count len e = (last, λ q. eqb-true len 480 (rw (ne-eqb (number + 1) count q) at e))

@@ -1,6 +1,6 @@
 use mathlib.Core.Path.{_∙_}
 use Rattle.cmac_spec.specs.Cmac.{endedBy}
-use Rattle.cmac_run.specs.Model as running
+use Rattle.cmac_run.specs.Running as running
 use borrow.Author.Needs.{needs}
 use Rattle.cmac_run.proofs.Run.closed.Statement.{statement}
 use Rattle.cmac_run.proofs.Run.closed.Tie as tie

@@ -1,6 +1,6 @@
 use mathlib.Core.Path.{refl}
 use Rattle.octets.specs.Octets.{padTo}
-use Rattle.cmac_run.specs.Model.{begun}
+use Rattle.cmac_run.specs.Running.{begun}
 use Rattle.cmac_run.proofs.Run.new.Statement.{statement}
 use Rattle.cmac_run.proofs.Run.new.Tie as tie
 

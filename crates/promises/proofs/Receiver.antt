@@ -1,0 +1,3 @@
+pub mod Words
+pub mod Statements
+pub mod Calls
