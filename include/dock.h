@@ -97,10 +97,10 @@ typedef struct {
 uint8_t dock_product(uint8_t a, uint8_t b);
 
 // The key schedule of a key of 16, 24 or 32 bytes: 44, 52 or 60 words, zeros behind them, and 10, 12 or 14 rounds. The first byte
-// of a word of the standard is the highest of the number. Refused by 1, with zeros in words and rounds.
+// of a word of the standard is the highest of the number. Refused with 1, with zeros in words and rounds.
 dock_schedule_answer dock_schedule(const uint8_t *key, size_t key_length);
 
-// One block encrypted or decrypted under a key of 16, 24 or 32 bytes. Refused by 1, with zeros in block.
+// One block encrypted or decrypted under a key of 16, 24 or 32 bytes. Refused with 1, with zeros in block.
 dock_block_answer dock_encrypt(const uint8_t *key, size_t key_length, dock_block block);
 dock_block_answer dock_decrypt(const uint8_t *key, size_t key_length, dock_block block);
 
@@ -156,7 +156,7 @@ typedef struct {
     dock_record record;
 } dock_start_answer;
 
-// The check of a message of any length, 0 too, under a key of 16, 24 or 32 bytes. Refused by 1, with zeros in check.
+// The check of a message of any length, 0 too, under a key of 16, 24 or 32 bytes. Refused with 1, with zeros in check.
 //
 // Do not compare checks by memcmp: its time may tell how many bytes agree, and so a right check can be found byte by byte. Compare all
 // 16 bytes with no early end, and look at the number first, since a refused call has zeros there:
@@ -166,7 +166,7 @@ typedef struct {
 //     int right = answer.number == DOCK_DONE && differing == 0;
 dock_check_answer dock_check(const uint8_t *key, size_t key_length, const uint8_t *message, size_t length);
 
-// A record to which nothing has been fed. Refused by 1, with the zero record, whose check is sixteen zeros whatever is fed.
+// A record to which nothing has been fed. Refused with 1, with the zero record, whose check is sixteen zeros whatever is fed.
 dock_start_answer dock_check_start(const uint8_t *key, size_t key_length);
 
 // The record that is lent takes the part in, on the spot. It refuses nothing, and a part may be empty.
@@ -232,14 +232,14 @@ uint32_t dock_write(const uint8_t *ekey, size_t ekey_length, const uint8_t *ckey
                     uint32_t number, uint32_t count, uint32_t release, uint32_t edition, dock_block previous,
                     const uint8_t *payload, size_t payload_length, uint8_t *output, size_t output_length);
 
-// A reader that expects block 0. Refused by 1 for either key, with the zero reader, which accepts nothing: a block gets 14.
+// A reader that expects block 0. Refused with 1 for either key, with the zero reader, which accepts nothing: a block gets 14.
 dock_read_start_answer dock_read_start(const uint8_t *ekey, size_t ekey_length, const uint8_t *ckey, size_t ckey_length);
 
 // Takes in lent blocks of 512 bytes each, as many as asked for at most, 1 to 128, up to the first that is refused. The k blocks to be
 // handled, the smaller of those lent and those asked for, want an output of 480 k bytes; no block lent wants none. The decrypted 480
 // bytes of block j of the turn, payload and zero fill, go to 480 j of the output.
-// The turn as a whole is refused by the first that applies of 5, 6, 4, with counts of 0 and the very reader that was given, whatever
-// numbers it holds. A block is refused by the first that applies of 16, 14, 7, 8, 9, 10, 12, 13, 15: the output from its place on and
+// The turn as a whole is refused with the first that applies of 5, 6, 4, with counts of 0 and the very reader that was given, whatever
+// numbers it holds. A block is refused with the first that applies of 16, 14, 7, 8, 9, 10, 12, 13, 15: the output from its place on and
 // the reader are as the block before it left them, so it may be fetched and offered again. 16 is given where next is not 0 and not
 // below count.
 // Both editions are read. 2 in bytes 14 and 15 selects the cover of edition 2, whose check covers the reader's last besides; any other
@@ -281,16 +281,16 @@ typedef struct {
 
 // A receiver of the blocks of one image of edition 1, of this count and release, that holds none. The store is to hold 480 bytes a block,
 // and the map one bit a block: bit n mod 8, 0 the lowest, of byte n / 8 for block n. The bytes 0 to (count + 7) / 8 - 1 of the map are
-// cleared, and nothing else is changed: only the length of the store is looked at. Refused by the first that applies of 1, 7, 4, with the
+// cleared, and nothing else is changed: only the length of the store is looked at. Refused with the first that applies of 1, 7, 4, with the
 // zero receiver, which accepts nothing.
 dock_receive_answer dock_receive_start(const uint8_t *ekey, size_t ekey_length, const uint8_t *ckey, size_t ckey_length,
                                        uint32_t count, uint32_t release, const uint8_t *store, size_t store_length,
                                        uint8_t *map, size_t map_length);
 
 // Takes in one block of 512 bytes, whatever its number: its decrypted 480 bytes, payload and zero fill, go to 480 times its number of the
-// store, its bit of the map is set, and the receipt counts it. Refused by the first that applies of 6, 4, 14, 7, 9, 10, 20, 12, 13, 15,
+// store, its bit of the map is set, and the receipt counts it. Refused with the first that applies of 6, 4, 14, 7, 9, 10, 20, 12, 13, 15,
 // 21, with the very receiver that was given, and nothing changed, so it may be fetched and offered again. 21 looks at the map alone. Store
-// and map are to come back as they were left; no block lies in the other memory that is lent.
+// and map are to come back as they were left.
 dock_receive_answer dock_receive(dock_receiver receiver, const uint8_t *block, size_t block_length,
                                  uint8_t *store, size_t store_length, uint8_t *map, size_t map_length);
 

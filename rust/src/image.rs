@@ -119,7 +119,7 @@ impl Reader {
     ///
     /// # Errors
     ///
-    /// The whole turn is refused by the first that applies of [`AskedNumber`](Refusal::AskedNumber),
+    /// The whole turn is refused with the first that applies of [`AskedNumber`](Refusal::AskedNumber),
     /// [`LentLength`](Refusal::LentLength) and [`OutputShort`](Refusal::OutputShort).
     pub fn turn(
         &mut self,
