@@ -83,6 +83,27 @@ ON_MODE(cfb_encrypt, 16, dock_chain_answer, a.number)
 ON_MODE(cfb_decrypt, 16, dock_chain_answer, a.number)
 ON_MODE(ofb, 16, dock_chain_answer, a.number)
 
+static const size_t wides[] = {0, 1, 2, 40};
+enum { WIDES = sizeof wides / sizeof wides[0] };
+
+// So many blocks of the width.
+#define ON_WIDE(name, width, iv_length, answer, number)                                                               \
+    static void on_##name(void)                                                                                       \
+    {                                                                                                                 \
+        for (int i = 0; i < WIDES; i++) {                                                                             \
+            answer a = ON(dock_##name)(key, key_length, input, iv_length, input, width * wides[i], output, LONG);     \
+            seen(number == 0);                                                                                        \
+        }                                                                                                             \
+    }
+ON_WIDE(wide24_ecb_encrypt, 24, 0, uint32_t, a)
+ON_WIDE(wide24_ecb_decrypt, 24, 0, uint32_t, a)
+ON_WIDE(wide24_cbc_encrypt, 24, 24, dock_chain24_answer, a.number)
+ON_WIDE(wide24_cbc_decrypt, 24, 24, dock_chain24_answer, a.number)
+ON_WIDE(wide32_ecb_encrypt, 32, 0, uint32_t, a)
+ON_WIDE(wide32_ecb_decrypt, 32, 0, uint32_t, a)
+ON_WIDE(wide32_cbc_encrypt, 32, 32, dock_chain32_answer, a.number)
+ON_WIDE(wide32_cbc_decrypt, 32, 32, dock_chain32_answer, a.number)
+
 static const size_t lengths[] = {0, 1, 16, 17, 496, 4096, LONG};
 enum { LENGTHS = sizeof lengths / sizeof lengths[0] };
 
@@ -296,6 +317,14 @@ static const struct {
     {"dock_cfb_encrypt", on_cfb_encrypt, 24, sizeof(dock_chain_answer)},
     {"dock_cfb_decrypt", on_cfb_decrypt, 24, sizeof(dock_chain_answer)},
     {"dock_ofb", on_ofb, 24, sizeof(dock_chain_answer)},
+    {"dock_wide24_ecb_encrypt", on_wide24_ecb_encrypt, 16, 0},
+    {"dock_wide24_ecb_decrypt", on_wide24_ecb_decrypt, 16, 0},
+    {"dock_wide24_cbc_encrypt", on_wide24_cbc_encrypt, 24, sizeof(dock_chain24_answer)},
+    {"dock_wide24_cbc_decrypt", on_wide24_cbc_decrypt, 24, sizeof(dock_chain24_answer)},
+    {"dock_wide32_ecb_encrypt", on_wide32_ecb_encrypt, 16, 0},
+    {"dock_wide32_ecb_decrypt", on_wide32_ecb_decrypt, 16, 0},
+    {"dock_wide32_cbc_encrypt", on_wide32_cbc_encrypt, 24, sizeof(dock_chain32_answer)},
+    {"dock_wide32_cbc_decrypt", on_wide32_cbc_decrypt, 24, sizeof(dock_chain32_answer)},
     {"dock_check", on_check, 0, sizeof(dock_check_answer)},
     {"dock_check_start", on_check_start, 0, sizeof(dock_start_answer)},
     {"dock_check_feed", on_check_feed, 0, 0},

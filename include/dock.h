@@ -32,6 +32,9 @@
 #include <stddef.h>
 #include <stdint.h>
 
+// The version of these calls, as `./dock version` and the package in Rust have it.
+#define DOCK_VERSION "0.1.0"
+
 #ifdef __cplusplus
 extern "C" {
 #endif
@@ -134,6 +137,38 @@ dock_chain_answer dock_cfb_decrypt(const uint8_t *key, size_t key_length, const 
                                    const uint8_t *input, size_t input_length, uint8_t *output, size_t output_length);
 dock_chain_answer dock_ofb(const uint8_t *key, size_t key_length, const uint8_t *iv, size_t iv_length,
                            const uint8_t *input, size_t input_length, uint8_t *output, size_t output_length);
+
+// ---- Rijndael with blocks of 24 and of 32 bytes, in ECB and CBC, for the cabinets with the first loader
+
+// As the modes above, over the wide cipher: the input is a multiple of 24 bytes (32), and the IV is empty in ECB and 24 bytes (32) in
+// CBC. CBC hands on its chaining value of 24 bytes (32), zeros where the call was refused. Keys have 16, 24 or 32 bytes. The number is 0 or
+// the first that applies of 1, 2, 3, 4. Images stay on blocks of 16 bytes.
+typedef struct {
+    uint32_t number;
+    uint8_t next[24];
+} dock_chain24_answer;
+
+typedef struct {
+    uint32_t number;
+    uint8_t next[32];
+} dock_chain32_answer;
+
+uint32_t dock_wide24_ecb_encrypt(const uint8_t *key, size_t key_length, const uint8_t *iv, size_t iv_length,
+                                 const uint8_t *input, size_t input_length, uint8_t *output, size_t output_length);
+uint32_t dock_wide24_ecb_decrypt(const uint8_t *key, size_t key_length, const uint8_t *iv, size_t iv_length,
+                                 const uint8_t *input, size_t input_length, uint8_t *output, size_t output_length);
+dock_chain24_answer dock_wide24_cbc_encrypt(const uint8_t *key, size_t key_length, const uint8_t *iv, size_t iv_length,
+                                            const uint8_t *input, size_t input_length, uint8_t *output, size_t output_length);
+dock_chain24_answer dock_wide24_cbc_decrypt(const uint8_t *key, size_t key_length, const uint8_t *iv, size_t iv_length,
+                                            const uint8_t *input, size_t input_length, uint8_t *output, size_t output_length);
+uint32_t dock_wide32_ecb_encrypt(const uint8_t *key, size_t key_length, const uint8_t *iv, size_t iv_length,
+                                 const uint8_t *input, size_t input_length, uint8_t *output, size_t output_length);
+uint32_t dock_wide32_ecb_decrypt(const uint8_t *key, size_t key_length, const uint8_t *iv, size_t iv_length,
+                                 const uint8_t *input, size_t input_length, uint8_t *output, size_t output_length);
+dock_chain32_answer dock_wide32_cbc_encrypt(const uint8_t *key, size_t key_length, const uint8_t *iv, size_t iv_length,
+                                            const uint8_t *input, size_t input_length, uint8_t *output, size_t output_length);
+dock_chain32_answer dock_wide32_cbc_decrypt(const uint8_t *key, size_t key_length, const uint8_t *iv, size_t iv_length,
+                                            const uint8_t *input, size_t input_length, uint8_t *output, size_t output_length);
 
 // ---- The check: CMAC of SP 800-38B, all 16 bytes
 

@@ -1,5 +1,5 @@
-//! Says where the archive of `rt staticlib dock` is, in `DOCK_LIBS` or in this repository's target/staticlib, and whether the compiler
-//! has `core::error::Error`.
+//! Says where the archive of `rt staticlib dock` is, in `DOCK_LIBS`, in this repository's target/staticlib or where pkg-config knows
+//! it, and whether the compiler has `core::error::Error`.
 
 use std::env;
 use std::path::PathBuf;
@@ -13,9 +13,14 @@ const ASKS_FOR_NAMES: u32 = 80;
 fn main() {
     let here = env::var_os("CARGO_MANIFEST_DIR").map_or_else(PathBuf::new, PathBuf::from);
     let own = here.join("../target/staticlib");
-    let folder = env::var_os("DOCK_LIBS").map_or(own, PathBuf::from);
+    let folder = match env::var_os("DOCK_LIBS") {
+        Some(named) => PathBuf::from(named),
+        None if own.join("libdock.a").exists() => own,
+        None => installed().unwrap_or(own),
+    };
     let archive = folder.join("libdock.a");
     println!("cargo:rerun-if-env-changed=DOCK_LIBS");
+    println!("cargo:rerun-if-env-changed=PKG_CONFIG_PATH");
     println!("cargo:rerun-if-changed=build.rs");
     println!("cargo:rerun-if-changed={}", archive.display());
     println!("cargo:rustc-link-search=native={}", folder.display());
@@ -26,7 +31,7 @@ fn main() {
         println!("cargo:warning=libdock.a is for x86-64 Linux. A build for {target} can be checked, and cannot be linked.");
     } else if !archive.exists() {
         println!(
-            "cargo:warning=there is no {}: run rt staticlib dock",
+            "cargo:warning=there is no {}: run rt staticlib dock, or set DOCK_LIBS or PKG_CONFIG_PATH",
             archive.display()
         );
     }
@@ -39,6 +44,20 @@ fn main() {
     if minor >= HAS_CORE_ERROR {
         println!("cargo:rustc-cfg=dock_core_error");
     }
+}
+
+/// The folder of an installed archive, where pkg-config is there and knows it.
+fn installed() -> Option<PathBuf> {
+    let output = Command::new("pkg-config")
+        .args(["--variable=libdir", "dock"])
+        .output()
+        .ok()?;
+    let words = String::from_utf8(output.stdout).ok()?;
+    let folder = words.trim_end_matches('\n');
+    if output.status.success() && !folder.is_empty() {
+        return Some(PathBuf::from(folder));
+    }
+    None
 }
 
 /// The target that is built for, where it is not the archive's.

@@ -53,6 +53,7 @@ mod refusal;
 mod saes;
 pub mod sys;
 mod view;
+mod wide;
 mod wipe;
 mod wrap;
 
@@ -67,4 +68,8 @@ pub use receiver::{Receiver, Refused};
 pub use refusal::Refusal;
 pub use saes::{saes_decrypt, saes_encrypt};
 pub use view::{Blocks, View};
+pub use wide::{
+    wide24_cbc_decrypt, wide24_cbc_encrypt, wide24_ecb_decrypt, wide24_ecb_encrypt,
+    wide32_cbc_decrypt, wide32_cbc_encrypt, wide32_ecb_decrypt, wide32_ecb_encrypt,
+};
 pub use wrap::{unwrap, wrap};

@@ -35,6 +35,20 @@ pub struct ChainAnswer {
 
 #[repr(C)]
 #[derive(Clone, Copy)]
+pub struct Chain24Answer {
+    pub number: u32,
+    pub next: [u8; 24],
+}
+
+#[repr(C)]
+#[derive(Clone, Copy)]
+pub struct Chain32Answer {
+    pub number: u32,
+    pub next: [u8; 32],
+}
+
+#[repr(C)]
+#[derive(Clone, Copy)]
 pub struct CheckAnswer {
     pub number: u32,
     pub check: [u8; 16],
@@ -265,6 +279,38 @@ extern "C" {
         key: *const u8, key_length: usize, iv: *const u8, iv_length: usize,
         input: *const u8, input_length: usize, output: *mut u8, output_length: usize,
     ) -> ChainAnswer;
+    pub fn dock_wide24_ecb_encrypt(
+        key: *const u8, key_length: usize, iv: *const u8, iv_length: usize,
+        input: *const u8, input_length: usize, output: *mut u8, output_length: usize,
+    ) -> u32;
+    pub fn dock_wide24_ecb_decrypt(
+        key: *const u8, key_length: usize, iv: *const u8, iv_length: usize,
+        input: *const u8, input_length: usize, output: *mut u8, output_length: usize,
+    ) -> u32;
+    pub fn dock_wide24_cbc_encrypt(
+        key: *const u8, key_length: usize, iv: *const u8, iv_length: usize,
+        input: *const u8, input_length: usize, output: *mut u8, output_length: usize,
+    ) -> Chain24Answer;
+    pub fn dock_wide24_cbc_decrypt(
+        key: *const u8, key_length: usize, iv: *const u8, iv_length: usize,
+        input: *const u8, input_length: usize, output: *mut u8, output_length: usize,
+    ) -> Chain24Answer;
+    pub fn dock_wide32_ecb_encrypt(
+        key: *const u8, key_length: usize, iv: *const u8, iv_length: usize,
+        input: *const u8, input_length: usize, output: *mut u8, output_length: usize,
+    ) -> u32;
+    pub fn dock_wide32_ecb_decrypt(
+        key: *const u8, key_length: usize, iv: *const u8, iv_length: usize,
+        input: *const u8, input_length: usize, output: *mut u8, output_length: usize,
+    ) -> u32;
+    pub fn dock_wide32_cbc_encrypt(
+        key: *const u8, key_length: usize, iv: *const u8, iv_length: usize,
+        input: *const u8, input_length: usize, output: *mut u8, output_length: usize,
+    ) -> Chain32Answer;
+    pub fn dock_wide32_cbc_decrypt(
+        key: *const u8, key_length: usize, iv: *const u8, iv_length: usize,
+        input: *const u8, input_length: usize, output: *mut u8, output_length: usize,
+    ) -> Chain32Answer;
 
     pub fn dock_check(key: *const u8, key_length: usize, message: *const u8, length: usize) -> CheckAnswer;
     pub fn dock_check_start(key: *const u8, key_length: usize) -> StartAnswer;

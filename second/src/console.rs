@@ -27,6 +27,7 @@ use crate::image::{self, Reader, Stop, Turn, Which};
 use crate::modes::{self, Operation};
 use crate::receive::Receiver;
 use crate::refusal::{number_of, Refusal};
+use crate::rijndael::{self, Way};
 use crate::saes::{Saes, States};
 use crate::view::View;
 use crate::wrap;
@@ -130,7 +131,10 @@ impl Console {
             (b"saes-decrypt", [key, block]) => apprentice(Saes::decrypt, key, block),
             (b"ccm-seal", words) => ccm_call(ccm::seal, words),
             (b"ccm-open", words) => ccm_call(ccm::open, words),
-            (name, [key, iv, input, output]) => mode_call(name, key, iv, input, output),
+            (name, [key, iv, input, output]) => match wide_named(name) {
+                Some(call) => wide_call(call, key, iv, input, output),
+                None => mode_call(name, key, iv, input, output),
+            },
             _ => None,
         }
     }
@@ -246,6 +250,42 @@ fn mode_call(name: &[u8], key: &[u8], iv: &[u8], input: &[u8], output: &[u8]) ->
         _ => block_answer(result),
     };
     Some(format!("{number} {}", hex::shown(&output)))
+}
+
+/// Columns, whether it is CBC, and the way.
+type WideCall = (usize, bool, Way);
+
+fn wide_named(name: &[u8]) -> Option<WideCall> {
+    let (columns, mode) = match name.split_at_checked(7)? {
+        (b"wide24-", mode) => (6, mode),
+        (b"wide32-", mode) => (8, mode),
+        _ => return None,
+    };
+    match mode {
+        b"ecb-encrypt" => Some((columns, false, Way::Encrypt)),
+        b"ecb-decrypt" => Some((columns, false, Way::Decrypt)),
+        b"cbc-encrypt" => Some((columns, true, Way::Encrypt)),
+        b"cbc-decrypt" => Some((columns, true, Way::Decrypt)),
+        _ => None,
+    }
+}
+
+fn wide_call(
+    (columns, chained, way): WideCall,
+    key: &[u8],
+    iv: &[u8],
+    input: &[u8],
+    output: &[u8],
+) -> Option<String> {
+    let (key, iv, input) = (hex::read(key)?, hex::read(iv)?, hex::read(input)?);
+    let mut output = hex::read(output)?;
+    let result = rijndael::run(columns, chained, way, &key, &iv, &input, &mut output);
+    let mut answer = number_of(&result).to_string();
+    if chained {
+        let next = result.unwrap_or_else(|_| vec![0; 4 * columns]);
+        answer = format!("{answer} {}", hex::shown(&next));
+    }
+    Some(format!("{answer} {}", hex::shown(&output)))
 }
 
 fn operation_named(name: &[u8]) -> Option<Operation> {

@@ -13,8 +13,10 @@ mod modes;
 mod random;
 mod receive;
 mod refusal;
+mod replay;
 mod saes;
 mod view;
+mod rijndael;
 mod wrap;
 
 use std::env;
@@ -25,7 +27,7 @@ use std::process::ExitCode;
 use std::str::FromStr;
 
 const USAGE: &str = "usage: second console | second list | second ccm | second seal KEYS RELEASE [EDITION] \
-                     | second random SEED COUNT [CALL,CALL...] | second listings SEED DIR | second turns SEED DIR | second blocks KEY..";
+                     | second random SEED COUNT [CALL,CALL...] | second listings SEED DIR | second turns SEED DIR | second blocks KEY.. | second replay | second replays SEED COUNT DIR";
 
 fn main() -> ExitCode {
     let words: Vec<String> = env::args_os()
@@ -48,6 +50,8 @@ fn run(words: &[&str]) -> Result<(), String> {
         ["console"] => console::serve(&mut io::stdin().lock(), &mut io::stdout().lock()),
         ["list"] => list(),
         ["ccm"] => ccm::serve(&mut io::stdin().lock(), &mut io::stdout().lock()),
+        ["replay"] => replay_input(),
+        ["replays", seed, count, dir] => replays(number(seed)?, number(count)?, Path::new(dir)),
         ["seal", keys, release] => seal(Path::new(keys), number(release)?, 1)?,
         ["seal", keys, release, edition] => {
             seal(Path::new(keys), number(release)?, number(edition)?)?
@@ -87,6 +91,27 @@ fn seal(keys: &Path, release: u32, edition: u32) -> Result<io::Result<()>, Strin
 fn random(seed: u64, count: u64, calls: Option<&str>) -> Result<io::Result<()>, String> {
     let lines = random::Lines::new(seed, calls)?;
     Ok(print_lines(lines, count))
+}
+
+fn replay_input() -> io::Result<()> {
+    let mut input = Vec::new();
+    io::stdin().lock().read_to_end(&mut input)?;
+    io::stdout().write_all(replay::replay(&input).as_bytes())
+}
+
+/// Writes small response files, right and damaged, to DIR/in and their answers to DIR/second.
+fn replays(seed: u64, count: usize, dir: &Path) -> io::Result<()> {
+    for part in ["in", "second"] {
+        fs::create_dir_all(dir.join(part))?;
+    }
+    for (i, input) in random::replays::inputs(seed).take(count).enumerate() {
+        fs::write(dir.join("in").join(i.to_string()), &input)?;
+        fs::write(
+            dir.join("second").join(i.to_string()),
+            replay::replay(&input),
+        )?;
+    }
+    Ok(())
 }
 
 /// Writes each input to DIR/in and its listing to DIR/second.

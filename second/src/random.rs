@@ -5,6 +5,7 @@ pub mod listings;
 mod messages;
 mod plan;
 mod receives;
+pub mod replays;
 mod rng;
 mod spoil;
 pub mod turns;

@@ -49,6 +49,7 @@ impl Receiver {
         })
     }
 
+    #[cfg(test)]
     pub fn count(&self) -> u32 {
         self.count
     }
@@ -58,6 +59,7 @@ impl Receiver {
     }
 
     /// The sum of the payload lengths accepted.
+    #[cfg(test)]
     pub fn bytes(&self) -> u32 {
         self.bytes
     }

@@ -29,6 +29,8 @@ static dock_receiver receiver;
 
 typedef uint32_t mode_call(const uint8_t *, size_t, const uint8_t *, size_t, const uint8_t *, size_t, uint8_t *, size_t);
 typedef dock_chain_answer chain_call(const uint8_t *, size_t, const uint8_t *, size_t, const uint8_t *, size_t, uint8_t *, size_t);
+typedef dock_chain24_answer chain24_call(const uint8_t *, size_t, const uint8_t *, size_t, const uint8_t *, size_t, uint8_t *, size_t);
+typedef dock_chain32_answer chain32_call(const uint8_t *, size_t, const uint8_t *, size_t, const uint8_t *, size_t, uint8_t *, size_t);
 typedef uint32_t wrap_call(const uint8_t *, size_t, const uint8_t *, size_t, uint8_t *, size_t);
 typedef uint32_t ccm_call(const uint8_t *, size_t, const uint8_t *, size_t, const uint8_t *, size_t, const uint8_t *, size_t,
                           uint8_t *, size_t);
@@ -45,6 +47,8 @@ struct form {
     union {
         mode_call *mode;
         chain_call *chain;
+        chain24_call *chain24;
+        chain32_call *chain32;
         wrap_call *wrap;
         ccm_call *ccm;
         block_call *block;
@@ -139,6 +143,28 @@ static bool chained(const form *f, const word *w) {
         f->call.chain(key->bytes, key->length, iv->bytes, iv->length, in->bytes, in->length, out->bytes, out->length);
     put_number(answer.number);
     put_bytes(answer.next, 16);
+    put_bytes(out->bytes, out->length);
+    return true;
+}
+
+static bool chained24(const form *f, const word *w) {
+    const lent *key = input(w[0]), *iv = input(w[1]), *in = input(w[2]), *out = output(w[3]);
+    if (!key || !iv || !in || !out) return false;
+    dock_chain24_answer answer =
+        f->call.chain24(key->bytes, key->length, iv->bytes, iv->length, in->bytes, in->length, out->bytes, out->length);
+    put_number(answer.number);
+    put_bytes(answer.next, 24);
+    put_bytes(out->bytes, out->length);
+    return true;
+}
+
+static bool chained32(const form *f, const word *w) {
+    const lent *key = input(w[0]), *iv = input(w[1]), *in = input(w[2]), *out = output(w[3]);
+    if (!key || !iv || !in || !out) return false;
+    dock_chain32_answer answer =
+        f->call.chain32(key->bytes, key->length, iv->bytes, iv->length, in->bytes, in->length, out->bytes, out->length);
+    put_number(answer.number);
+    put_bytes(answer.next, 32);
     put_bytes(out->bytes, out->length);
     return true;
 }
@@ -388,6 +414,14 @@ static const form forms[] = {
     {"saes-decrypt", 2, apprentice, {.states = dock_saes_decrypt}},
     {"ccm-seal", 5, ccm, {.ccm = dock_ccm_seal}},
     {"ccm-open", 5, ccm, {.ccm = dock_ccm_open}},
+    {"wide24-ecb-encrypt", 4, mode, {.mode = dock_wide24_ecb_encrypt}},
+    {"wide24-ecb-decrypt", 4, mode, {.mode = dock_wide24_ecb_decrypt}},
+    {"wide24-cbc-encrypt", 4, chained24, {.chain24 = dock_wide24_cbc_encrypt}},
+    {"wide24-cbc-decrypt", 4, chained24, {.chain24 = dock_wide24_cbc_decrypt}},
+    {"wide32-ecb-encrypt", 4, mode, {.mode = dock_wide32_ecb_encrypt}},
+    {"wide32-ecb-decrypt", 4, mode, {.mode = dock_wide32_ecb_decrypt}},
+    {"wide32-cbc-encrypt", 4, chained32, {.chain32 = dock_wide32_cbc_encrypt}},
+    {"wide32-cbc-decrypt", 4, chained32, {.chain32 = dock_wide32_cbc_decrypt}},
 };
 
 static const form *form_named(word name) {

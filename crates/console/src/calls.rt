@@ -1,28 +1,30 @@
 // The calls: their names and forms in one table. Each group has a file with the calls themselves and their answers.
+use crate::apprentice_lines;
 use crate::args;
-use crate::basic;
-use crate::checked;
+use crate::check_lines;
+use crate::cipher_lines;
 use crate::held::Held;
-use crate::imaged;
-use crate::moded;
-use crate::received;
-use crate::sealed;
-use crate::simplified;
-use crate::viewed;
-use crate::wrapped;
+use crate::image_lines;
+use crate::message_lines;
+use crate::mode_lines;
+use crate::receiver_lines;
+use crate::view_lines;
+use crate::wide_lines;
+use crate::wrap_lines;
+use apprentice_lines::SimplifiedCall;
 use args::Args;
-use basic::BasicCall;
-use checked::CheckCall;
-use imaged::ImageCall;
+use check_lines::CheckCall;
+use cipher_lines::BasicCall;
+use image_lines::ImageCall;
+use message_lines::CcmCall;
 use modes_spec::Operation;
-use received::ReceiveCall;
-use sealed::CcmCall;
-use simplified::SimplifiedCall;
-use viewed::ViewCall;
-use wrapped::WrapCall;
+use receiver_lines::ReceiveCall;
+use rijndael_spec::WideOperation;
+use view_lines::ViewCall;
+use wrap_lines::WrapCall;
 
 // A row has the name of a call, and from its place 20 on the form of its line: the letters are in args.rt.
-const ROWS: [[u8; 30]; 30] = [
+const ROWS: [[u8; 30]; 38] = [
     *b"product             .11       ",
     *b"schedule            .x        ",
     *b"encrypt             .xb       ",
@@ -53,6 +55,14 @@ const ROWS: [[u8; 30]; 30] = [
     *b"receive-start       .xxnnxo   ",
     *b"receive             .xox      ",
     *b"receive-complete    .         ",
+    *b"wide24-ecb-encrypt  .xxxo     ",
+    *b"wide24-ecb-decrypt  .xxxo     ",
+    *b"wide24-cbc-encrypt  .xxxo     ",
+    *b"wide24-cbc-decrypt  .xxxo     ",
+    *b"wide32-ecb-encrypt  .xxxo     ",
+    *b"wide32-ecb-decrypt  .xxxo     ",
+    *b"wide32-cbc-encrypt  .xxxo     ",
+    *b"wide32-cbc-decrypt  .xxxo     ",
 ];
 
 pub enum Call {
@@ -66,6 +76,8 @@ pub enum Call {
     Simplified(SimplifiedCall),
     Sealed(CcmCall),
     Received(ReceiveCall),
+    Wide24(WideOperation),
+    Wide32(WideOperation),
     Unknown,
 }
 
@@ -102,19 +114,27 @@ fn call_at(k: usize) -> Call {
         27 => Call::Received(ReceiveCall::Begin),
         28 => Call::Received(ReceiveCall::Receive),
         29 => Call::Received(ReceiveCall::Full),
+        30 => Call::Wide24(WideOperation::EncryptEcb),
+        31 => Call::Wide24(WideOperation::DecryptEcb),
+        32 => Call::Wide24(WideOperation::EncryptCbc),
+        33 => Call::Wide24(WideOperation::DecryptCbc),
+        34 => Call::Wide32(WideOperation::EncryptEcb),
+        35 => Call::Wide32(WideOperation::DecryptEcb),
+        36 => Call::Wide32(WideOperation::EncryptCbc),
+        37 => Call::Wide32(WideOperation::DecryptCbc),
         _ => Call::Unknown,
     }
 }
 
 // No line has the form of a row past the last, since that asks for no word at all.
 fn row(k: usize) -> [u8; 30] {
-    if k < 30 { ROWS[k] } else { [32; 30] }
+    if k < 38 { ROWS[k] } else { [32; 30] }
 }
 
-// The row that has a word for its name, or 30.
+// The row that has a word for its name, or 38.
 fn row_of(w: &[u8]) -> usize {
     let mut k: usize = 0;
-    while k < 30 {
+    while k < 38 {
         if has_name(row(k), w) {
             return k;
         }
@@ -143,16 +163,48 @@ pub fn answer(held: Held, line: &[u8], ins: &mut [u8], outs: &mut [u8], text: &m
 fn made(call: Call, held: Held, ins: &[u8], a: Args, outs: &mut [u8], text: &mut [u8]) -> Held {
     let at = held.end;
     match call {
-        Call::Basic(c) => held.at(basic::answer(c, ins, a, text, at)),
-        Call::Moded(operation) => held.at(moded::answer(operation, false, ins, a, outs, text, at)),
-        Call::Chained(operation) => held.at(moded::answer(operation, true, ins, a, outs, text, at)),
-        Call::Checked(c) => checked::answer(c, held, ins, a, text, at),
-        Call::Imaged(c) => imaged::answer(c, held, ins, a, outs, text, at),
-        Call::Wrapped(c) => held.at(wrapped::answer(c, ins, a, outs, text, at)),
-        Call::Viewed(c) => held.at(viewed::answer(c, ins, a, text, at)),
-        Call::Simplified(c) => held.at(simplified::answer(c, ins, a, text, at)),
-        Call::Sealed(c) => held.at(sealed::answer(c, ins, a, outs, text, at)),
-        Call::Received(c) => received::answer(c, held, ins, a, outs, text, at),
+        Call::Basic(c) => held.at(cipher_lines::answer(c, ins, a, text, at)),
+        Call::Moded(operation) => held.at(mode_lines::answer(
+            operation,
+            false,
+            ins,
+            a,
+            outs,
+            text,
+            at,
+        )),
+        Call::Chained(operation) => held.at(mode_lines::answer(
+            operation,
+            true,
+            ins,
+            a,
+            outs,
+            text,
+            at,
+        )),
+        Call::Checked(c) => check_lines::answer(c, held, ins, a, text, at),
+        Call::Imaged(c) => image_lines::answer(c, held, ins, a, outs, text, at),
+        Call::Wrapped(c) => held.at(wrap_lines::answer(c, ins, a, outs, text, at)),
+        Call::Viewed(c) => held.at(view_lines::answer(c, ins, a, text, at)),
+        Call::Simplified(c) => held.at(apprentice_lines::answer(c, ins, a, text, at)),
+        Call::Sealed(c) => held.at(message_lines::answer(c, ins, a, outs, text, at)),
+        Call::Received(c) => receiver_lines::answer(c, held, ins, a, outs, text, at),
+        Call::Wide24(operation) => held.at(wide_lines::answer_24(
+            operation,
+            ins,
+            a,
+            outs,
+            text,
+            at,
+        )),
+        Call::Wide32(operation) => held.at(wide_lines::answer_32(
+            operation,
+            ins,
+            a,
+            outs,
+            text,
+            at,
+        )),
         Call::Unknown => held,
     }
 }

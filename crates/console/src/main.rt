@@ -1,22 +1,27 @@
 // Reads lines on standard input and answers each with one line on standard output. It stops where these cannot be read or written.
+mod apprentice_lines;
 mod args;
-mod basic;
 mod calls;
-mod checked;
+mod check_lines;
+mod cipher_lines;
 mod held;
-mod imaged;
-mod moded;
+mod image_lines;
+mod message_lines;
+mod mode_lines;
 mod print;
-mod received;
-mod sealed;
-mod simplified;
+mod receiver_lines;
 mod stopped;
 mod streams;
-mod viewed;
-mod wrapped;
+mod view_lines;
+mod wide_lines;
+mod wrap_lines;
 
 use held::Held;
 use libc::STDIN_FILENO;
+use text_lines::Place;
+use text_lines::gather;
+use text_lines::has_begun;
+use text_lines::no_line;
 ghost use Prim.Native.Nat.{_<_};
 ghost use lib.ListN.{length};
 
@@ -27,12 +32,6 @@ type Bytes = [u8; 32768];
 
 // The answers that wait: 65,536 bytes and room for one more, which is at most 1024 bytes longer than the longest line.
 type Answers = [u8; 132096];
-
-// The line so far: its length, and whether it has passed the longest.
-pub struct Place {
-    pub len: usize,
-    pub over: bool,
-}
 
 // Where reading stands: what is held, the line so far, and the place of the next byte to read.
 pub struct Fed {
@@ -52,28 +51,6 @@ pub struct Turned {
     pub held: Held,
     pub place: Place,
     pub after: After,
-}
-
-fn empty() -> Place {
-    Place {
-        len: 0,
-        over: false,
-    }
-}
-
-// The line with `s` after it; where that is too long, the line is marked and nothing is put.
-fn extend(p: Place, s: &[u8], line: &mut [u8]) -> Place {
-    let n = p.len;
-    if line.len() < n {
-        return Place { len: n, over: true };
-    }
-    if line.len() - n < s.len() {
-        return Place { len: n, over: true };
-    }
-    Place {
-        len: text_put::put(s, line, n),
-        over: p.over,
-    }
 }
 
 // After a write that failed, nothing more is written.
@@ -135,19 +112,19 @@ fn feed_line(
     requires { ⌜ at < length (now part) ⌝ }
     ensures { λ r. ⌜ at < r .at ⌝ }
 {
-    let e = text_words::find(part, at, 10);
-    let place = extend(p, octets_slice::part(part, at, e), line);
-    if part.len() <= e {
+    let g = gather(p, part, at, line);
+    let place = g.place;
+    let next = g.next;
+    if !g.whole {
         return Fed {
             held,
             place,
-            at: part.len(),
+            at: next,
         };
     }
-    let next = e + 1;
     Fed {
         held: finish(held, place, line, ins, outs, text),
-        place: empty(),
+        place: no_line(),
         at: next,
     }
 }
@@ -175,10 +152,6 @@ fn feed(
         place,
         at,
     }
-}
-
-fn started(p: Place) -> bool {
-    if 0 < p.len { true } else { p.over }
 }
 
 fn after_feed(f: Fed, after: After) -> Turned {
@@ -220,7 +193,7 @@ fn last_turn(
             after: After::Failed,
         };
     }
-    if !started(p) {
+    if !has_begun(p) {
         return Turned {
             held,
             place: p,
@@ -250,7 +223,7 @@ fn turn(held: Held, p: Place, line: &mut Line, text: &mut Answers) -> Turned {
 // down from a number that no run uses up.
 fn is_served(line: &mut Line, text: &mut Answers) -> bool {
     let mut held = Held::new();
-    let mut place = empty();
+    let mut place = no_line();
     let mut turns = u64::MAX;
     while turns > 0 {
         let t = turn(held, place, line, text);

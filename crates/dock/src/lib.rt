@@ -13,6 +13,7 @@ use image_receiver::Receiver;
 use image_view::ViewAnswer;
 use image_writer_answer::Numbers;
 use modes_spec::Operation;
+use rijndael_spec::WideOperation;
 use saes_spec::States;
 ghost use mathlib.Core.Path.{_≡_};
 ghost use Rattle.field.specs.Field.{_•_};
@@ -22,6 +23,10 @@ ghost use Rattle.aes.specs.Calls.{encryptUnder, decryptUnder};
 ghost use Rattle.modes_spec.specs.declared.Operation.the-variants.{EcbEncrypt, EcbDecrypt, CbcEncrypt, CbcDecrypt, CfbEncrypt, CfbDecrypt, Ofb};
 ghost use Rattle.modes_answer.specs.Answers.{modeNumber};
 ghost use Rattle.modes.specs.Calls.{modeAnswer};
+ghost use Rattle.rijndael_spec.specs.declared.Width.the-variants.{Six, Eight};
+ghost use Rattle.rijndael_spec.specs.declared.WideOperation.the-variants.{EncryptEcb, DecryptEcb, EncryptCbc, DecryptCbc};
+ghost use Rattle.rijndael.specs.Calls.{wideAnswer};
+ghost use Rattle.dock.specs.Wide.{wide24Applied, wide32Applied, chain24Answer, chain32Answer, afterWide};
 ghost use Rattle.cmac.specs.Calls.{checkOf, startOf, fedWith, closeOf};
 ghost use Rattle.image_writer_answer.specs.Answers.{writeNumber};
 ghost use Rattle.image_writer.specs.Calls.{writeAnswer, writeOutput};
@@ -64,6 +69,19 @@ pub struct BlockAnswer {
 pub struct ChainAnswer {
     pub number: u32,
     pub next: [u8; 16],
+}
+
+// The same of the modes over blocks of 24 and of 32 bytes.
+#[repr(C)]
+pub struct Chain24Answer {
+    pub number: u32,
+    pub next: [u8; 24],
+}
+
+#[repr(C)]
+pub struct Chain32Answer {
+    pub number: u32,
+    pub next: [u8; 32],
 }
 
 #[repr(C)]
@@ -417,6 +435,112 @@ pub extern "C" fn dock_ccm_open(
     answer.number()
 }
 
+// Rijndael with blocks of 24 bytes: the IV is empty in ECB and 24 bytes in CBC.
+#[no_mangle]
+pub extern "C" fn dock_wide24_ecb_encrypt(
+    key: &[u8],
+    iv: &[u8],
+    input: &[u8],
+    output: &mut [u8],
+) -> u32
+    ensures answer { λ r. ⌜ r ≡ modeNumber (wideAnswer Six EncryptEcb (now (key .entry)) (now (iv .entry)) (now (input .entry)) (now (output .entry))) ⌝ }
+    ensures written { λ _. ⌜ now (output .exit) ≡ afterWide Six EncryptEcb (now (key .entry)) (now (iv .entry)) (now (input .entry)) (now (output .entry)) ⌝ }
+{
+    run_wide_24(WideOperation::EncryptEcb, key, iv, input, output)
+}
+
+#[no_mangle]
+pub extern "C" fn dock_wide24_ecb_decrypt(
+    key: &[u8],
+    iv: &[u8],
+    input: &[u8],
+    output: &mut [u8],
+) -> u32
+    ensures answer { λ r. ⌜ r ≡ modeNumber (wideAnswer Six DecryptEcb (now (key .entry)) (now (iv .entry)) (now (input .entry)) (now (output .entry))) ⌝ }
+    ensures written { λ _. ⌜ now (output .exit) ≡ afterWide Six DecryptEcb (now (key .entry)) (now (iv .entry)) (now (input .entry)) (now (output .entry)) ⌝ }
+{
+    run_wide_24(WideOperation::DecryptEcb, key, iv, input, output)
+}
+
+#[no_mangle]
+pub extern "C" fn dock_wide24_cbc_encrypt(
+    key: &[u8],
+    iv: &[u8],
+    input: &[u8],
+    output: &mut [u8],
+) -> Chain24Answer
+    ensures answer { λ r. ⌜ r ≡ chain24Answer (wide24Applied EncryptCbc (now (key .entry)) (now (iv .entry)) (now (input .entry)) (now (output .entry))) ⌝ }
+    ensures written { λ _. ⌜ now (output .exit) ≡ afterWide Six EncryptCbc (now (key .entry)) (now (iv .entry)) (now (input .entry)) (now (output .entry)) ⌝ }
+{
+    run_chained_24(WideOperation::EncryptCbc, key, iv, input, output)
+}
+
+#[no_mangle]
+pub extern "C" fn dock_wide24_cbc_decrypt(
+    key: &[u8],
+    iv: &[u8],
+    input: &[u8],
+    output: &mut [u8],
+) -> Chain24Answer
+    ensures answer { λ r. ⌜ r ≡ chain24Answer (wide24Applied DecryptCbc (now (key .entry)) (now (iv .entry)) (now (input .entry)) (now (output .entry))) ⌝ }
+    ensures written { λ _. ⌜ now (output .exit) ≡ afterWide Six DecryptCbc (now (key .entry)) (now (iv .entry)) (now (input .entry)) (now (output .entry)) ⌝ }
+{
+    run_chained_24(WideOperation::DecryptCbc, key, iv, input, output)
+}
+
+// Rijndael with blocks of 32 bytes: the IV is empty in ECB and 32 bytes in CBC.
+#[no_mangle]
+pub extern "C" fn dock_wide32_ecb_encrypt(
+    key: &[u8],
+    iv: &[u8],
+    input: &[u8],
+    output: &mut [u8],
+) -> u32
+    ensures answer { λ r. ⌜ r ≡ modeNumber (wideAnswer Eight EncryptEcb (now (key .entry)) (now (iv .entry)) (now (input .entry)) (now (output .entry))) ⌝ }
+    ensures written { λ _. ⌜ now (output .exit) ≡ afterWide Eight EncryptEcb (now (key .entry)) (now (iv .entry)) (now (input .entry)) (now (output .entry)) ⌝ }
+{
+    run_wide_32(WideOperation::EncryptEcb, key, iv, input, output)
+}
+
+#[no_mangle]
+pub extern "C" fn dock_wide32_ecb_decrypt(
+    key: &[u8],
+    iv: &[u8],
+    input: &[u8],
+    output: &mut [u8],
+) -> u32
+    ensures answer { λ r. ⌜ r ≡ modeNumber (wideAnswer Eight DecryptEcb (now (key .entry)) (now (iv .entry)) (now (input .entry)) (now (output .entry))) ⌝ }
+    ensures written { λ _. ⌜ now (output .exit) ≡ afterWide Eight DecryptEcb (now (key .entry)) (now (iv .entry)) (now (input .entry)) (now (output .entry)) ⌝ }
+{
+    run_wide_32(WideOperation::DecryptEcb, key, iv, input, output)
+}
+
+#[no_mangle]
+pub extern "C" fn dock_wide32_cbc_encrypt(
+    key: &[u8],
+    iv: &[u8],
+    input: &[u8],
+    output: &mut [u8],
+) -> Chain32Answer
+    ensures answer { λ r. ⌜ r ≡ chain32Answer (wide32Applied EncryptCbc (now (key .entry)) (now (iv .entry)) (now (input .entry)) (now (output .entry))) ⌝ }
+    ensures written { λ _. ⌜ now (output .exit) ≡ afterWide Eight EncryptCbc (now (key .entry)) (now (iv .entry)) (now (input .entry)) (now (output .entry)) ⌝ }
+{
+    run_chained_32(WideOperation::EncryptCbc, key, iv, input, output)
+}
+
+#[no_mangle]
+pub extern "C" fn dock_wide32_cbc_decrypt(
+    key: &[u8],
+    iv: &[u8],
+    input: &[u8],
+    output: &mut [u8],
+) -> Chain32Answer
+    ensures answer { λ r. ⌜ r ≡ chain32Answer (wide32Applied DecryptCbc (now (key .entry)) (now (iv .entry)) (now (input .entry)) (now (output .entry))) ⌝ }
+    ensures written { λ _. ⌜ now (output .exit) ≡ afterWide Eight DecryptCbc (now (key .entry)) (now (iv .entry)) (now (input .entry)) (now (output .entry)) ⌝ }
+{
+    run_chained_32(WideOperation::DecryptCbc, key, iv, input, output)
+}
+
 fn block_answer(c: Ciphered) -> BlockAnswer
     ensures { λ r. ⌜ r ≡ blockAnswer c ⌝ }
 {
@@ -451,6 +575,74 @@ fn run_chained_mode(
     let answer = a.answer;
     let next = a.next;
     ChainAnswer {
+        number: answer.number(),
+        next,
+    }
+}
+
+fn run_wide_24(
+    operation: WideOperation,
+    key: &[u8],
+    iv: &[u8],
+    input: &[u8],
+    output: &mut [u8],
+) -> u32
+    ensures answer { λ r. ⌜ r ≡ modeNumber (wideAnswer Six operation (now (key .entry)) (now (iv .entry)) (now (input .entry)) (now (output .entry))) ⌝ }
+    ensures written { λ _. ⌜ now (output .exit) ≡ afterWide Six operation (now (key .entry)) (now (iv .entry)) (now (input .entry)) (now (output .entry)) ⌝ }
+{
+    let a = rijndael::apply_24(operation, key, iv, input, output);
+    let answer = a.answer;
+    answer.number()
+}
+
+fn run_chained_24(
+    operation: WideOperation,
+    key: &[u8],
+    iv: &[u8],
+    input: &[u8],
+    output: &mut [u8],
+) -> Chain24Answer
+    ensures answer { λ r. ⌜ r ≡ chain24Answer (wide24Applied operation (now (key .entry)) (now (iv .entry)) (now (input .entry)) (now (output .entry))) ⌝ }
+    ensures written { λ _. ⌜ now (output .exit) ≡ afterWide Six operation (now (key .entry)) (now (iv .entry)) (now (input .entry)) (now (output .entry)) ⌝ }
+{
+    let a = rijndael::apply_24(operation, key, iv, input, output);
+    let answer = a.answer;
+    let next = a.next;
+    Chain24Answer {
+        number: answer.number(),
+        next,
+    }
+}
+
+fn run_wide_32(
+    operation: WideOperation,
+    key: &[u8],
+    iv: &[u8],
+    input: &[u8],
+    output: &mut [u8],
+) -> u32
+    ensures answer { λ r. ⌜ r ≡ modeNumber (wideAnswer Eight operation (now (key .entry)) (now (iv .entry)) (now (input .entry)) (now (output .entry))) ⌝ }
+    ensures written { λ _. ⌜ now (output .exit) ≡ afterWide Eight operation (now (key .entry)) (now (iv .entry)) (now (input .entry)) (now (output .entry)) ⌝ }
+{
+    let a = rijndael::apply_32(operation, key, iv, input, output);
+    let answer = a.answer;
+    answer.number()
+}
+
+fn run_chained_32(
+    operation: WideOperation,
+    key: &[u8],
+    iv: &[u8],
+    input: &[u8],
+    output: &mut [u8],
+) -> Chain32Answer
+    ensures answer { λ r. ⌜ r ≡ chain32Answer (wide32Applied operation (now (key .entry)) (now (iv .entry)) (now (input .entry)) (now (output .entry))) ⌝ }
+    ensures written { λ _. ⌜ now (output .exit) ≡ afterWide Eight operation (now (key .entry)) (now (iv .entry)) (now (input .entry)) (now (output .entry)) ⌝ }
+{
+    let a = rijndael::apply_32(operation, key, iv, input, output);
+    let answer = a.answer;
+    let next = a.next;
+    Chain32Answer {
         number: answer.number(),
         next,
     }

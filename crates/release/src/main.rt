@@ -5,7 +5,7 @@ mod clock;
 mod input;
 mod keep;
 mod line;
-mod opening;
+mod reading;
 mod sealing;
 mod tell;
 
@@ -14,11 +14,11 @@ fn main() {
     let n = os::arg(1, &mut verb);
     let word = &verb[..n];
     if check::same(word, b"check") {
-        opening::check_image();
+        reading::check_image();
         return;
     }
     if check::same(word, b"open") {
-        opening::open_image();
+        reading::open_image();
         return;
     }
     if check::same(word, b"seal") {

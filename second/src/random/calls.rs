@@ -58,6 +58,14 @@ pub const CALLS: &[Call] = &[
     call("saes-decrypt", 2, two_short_words),
     call("ccm-seal", 2, seal_words),
     call("ccm-open", 3, open_words),
+    call("wide24-ecb-encrypt", 1, wide24_ecb_words),
+    call("wide24-ecb-decrypt", 1, wide24_ecb_words),
+    call("wide24-cbc-encrypt", 1, wide24_cbc_words),
+    call("wide24-cbc-decrypt", 1, wide24_cbc_words),
+    call("wide32-ecb-encrypt", 1, wide32_ecb_words),
+    call("wide32-ecb-decrypt", 1, wide32_ecb_words),
+    call("wide32-cbc-encrypt", 1, wide32_cbc_words),
+    call("wide32-cbc-decrypt", 1, wide32_cbc_words),
 ];
 
 pub struct Draw {
@@ -104,6 +112,15 @@ impl Draw {
     }
 
     /// A length that is mostly whole pieces, where only those are taken.
+    /// Mostly whole blocks of a width.
+    fn wide_length(&mut self, size: usize) -> usize {
+        if self.rng.percent(88) {
+            size * self.rng.below(5)
+        } else {
+            self.rng.below(130)
+        }
+    }
+
     fn whole_length(&mut self) -> usize {
         if self.rng.percent(88) {
             16 * self.rng.below(7)
@@ -197,6 +214,26 @@ fn chained_words(draw: &mut Draw) -> Vec<String> {
 fn ofb_words(draw: &mut Draw) -> Vec<String> {
     let length = draw.any_length();
     mode_words(draw, 16, length)
+}
+
+fn wide24_ecb_words(draw: &mut Draw) -> Vec<String> {
+    let length = draw.wide_length(24);
+    mode_words(draw, 0, length)
+}
+
+fn wide24_cbc_words(draw: &mut Draw) -> Vec<String> {
+    let length = draw.wide_length(24);
+    mode_words(draw, 24, length)
+}
+
+fn wide32_ecb_words(draw: &mut Draw) -> Vec<String> {
+    let length = draw.wide_length(32);
+    mode_words(draw, 0, length)
+}
+
+fn wide32_cbc_words(draw: &mut Draw) -> Vec<String> {
+    let length = draw.wide_length(32);
+    mode_words(draw, 32, length)
 }
 
 fn mode_words(draw: &mut Draw, iv: usize, length: usize) -> Vec<String> {

@@ -49,6 +49,30 @@ impl Console {
             (b"decrypt", [key, block]) => one_block(dock::decrypt, key, block),
             (b"ecb-encrypt", [key, iv, data, room]) => ecb(dock::ecb_encrypt, key, iv, data, room),
             (b"ecb-decrypt", [key, iv, data, room]) => ecb(dock::ecb_decrypt, key, iv, data, room),
+            (b"wide24-ecb-encrypt", [key, iv, data, room]) => {
+                ecb(dock::wide24_ecb_encrypt, key, iv, data, room)
+            }
+            (b"wide24-ecb-decrypt", [key, iv, data, room]) => {
+                ecb(dock::wide24_ecb_decrypt, key, iv, data, room)
+            }
+            (b"wide24-cbc-encrypt", [key, iv, data, room]) => {
+                chained(dock::wide24_cbc_encrypt, key, iv, data, room)
+            }
+            (b"wide24-cbc-decrypt", [key, iv, data, room]) => {
+                chained(dock::wide24_cbc_decrypt, key, iv, data, room)
+            }
+            (b"wide32-ecb-encrypt", [key, iv, data, room]) => {
+                ecb(dock::wide32_ecb_encrypt, key, iv, data, room)
+            }
+            (b"wide32-ecb-decrypt", [key, iv, data, room]) => {
+                ecb(dock::wide32_ecb_decrypt, key, iv, data, room)
+            }
+            (b"wide32-cbc-encrypt", [key, iv, data, room]) => {
+                chained(dock::wide32_cbc_encrypt, key, iv, data, room)
+            }
+            (b"wide32-cbc-decrypt", [key, iv, data, room]) => {
+                chained(dock::wide32_cbc_decrypt, key, iv, data, room)
+            }
             (b"cbc-encrypt", [key, iv, data, room]) => {
                 chained(dock::cbc_encrypt, key, iv, data, room)
             }
@@ -203,9 +227,15 @@ fn ecb(call: Ecb, key: &[u8], iv: &[u8], data: &[u8], room: &[u8]) -> Option<Str
     Some(format!("{} {}", number_of(&result), hex(&room)))
 }
 
-type Chained = fn(&[u8], &[u8], &[u8], &mut [u8]) -> Result<[u8; 16], Refusal>;
+type Chained<const N: usize> = fn(&[u8], &[u8], &[u8], &mut [u8]) -> Result<[u8; N], Refusal>;
 
-fn chained(call: Chained, key: &[u8], iv: &[u8], data: &[u8], room: &[u8]) -> Option<String> {
+fn chained<const N: usize>(
+    call: Chained<N>,
+    key: &[u8],
+    iv: &[u8],
+    data: &[u8],
+    room: &[u8],
+) -> Option<String> {
     let (key, iv, data, mut room) = (input(key)?, input(iv)?, input(data)?, output(room)?);
     let result = call(&key, &iv, &data, room.lend());
     Some(format!("{} {}", block_words(result), hex(&room)))
@@ -281,8 +311,9 @@ fn apprentice(call: fn(u16, u16) -> [u16; 3], key: &[u8], block: &[u8]) -> Optio
 type Ccm = fn(&[u8], &[u8], &[u8], &[u8], &mut [u8]) -> Result<(), Refusal>;
 
 fn ccm(call: Ccm, words: &[&[u8]]) -> Option<String> {
-    let [key, nonce, ad, data, room] = words else {
-        return None;
+    let (key, nonce, ad, data, room) = match words {
+        [key, nonce, ad, data, room] => (key, nonce, ad, data, room),
+        _ => return None,
     };
     let (key, nonce, ad, data) = (input(key)?, input(nonce)?, input(ad)?, input(data)?);
     let mut room = output(room)?;
@@ -290,12 +321,8 @@ fn ccm(call: Ccm, words: &[&[u8]]) -> Option<String> {
     Some(format!("{} {}", number_of(&result), hex(&room)))
 }
 
-fn block_words(result: Result<[u8; 16], Refusal>) -> String {
-    format!(
-        "{} {}",
-        number_of(&result),
-        hex(&result.unwrap_or_default())
-    )
+fn block_words<const N: usize>(result: Result<[u8; N], Refusal>) -> String {
+    format!("{} {}", number_of(&result), hex(&result.unwrap_or([0; N])))
 }
 
 /// Everything that a turn answers before its output.

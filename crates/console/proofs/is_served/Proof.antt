@@ -12,8 +12,8 @@ abbrev μ-loop : tie.MeasureT-loop
 new-requires : tie.Need-new-requires Inv-loop μ-loop
 new-requires c κs = search needs
 
-empty-requires : tie.Need-empty-requires Inv-loop μ-loop
-empty-requires c κs = search needs
+no-line-requires : tie.Need-no-line-requires Inv-loop μ-loop
+no-line-requires c κs = search needs
 
 loop-holds : tie.Need-loop-holds Inv-loop μ-loop
 loop-holds c = search needs
@@ -49,7 +49,7 @@ is-served-spec =
     Inv-loop
     μ-loop
     new-requires
-    empty-requires
+    no-line-requires
     loop-holds
     turn-requires
     enum-told

@@ -1,0 +1,4 @@
+mod KeyBytes
+pub mod Agree
+pub mod Equations
+pub mod Pins

@@ -1,0 +1,3 @@
+mod Laws
+pub mod Pins
+pub mod Told

@@ -1,0 +1,61 @@
+-- The turns are counted down. Assumes nothing.
+use borrow.Author.Needs.{needs}
+use Rattle.replay.proofs.replay_file.Statement.{statement}
+use Rattle.replay.proofs.replay_file.Tie as tie
+
+abbrev Inv-loop : tie.InvT-loop
+Inv-loop s line₀ fields₀ output₀ text₀ held₀ place₀ turns₀ line fields output text held place turns = Unit {0}
+
+abbrev μ-loop : tie.MeasureT-loop
+μ-loop s line₀ fields₀ output₀ text₀ held₀ place₀ turns₀ line fields output text held place turns = turns
+
+new-requires : tie.Need-new-requires Inv-loop μ-loop
+new-requires c κs = search needs
+
+opened-requires : tie.Need-opened-requires Inv-loop μ-loop
+opened-requires c κs = search needs
+
+loop-holds : tie.Need-loop-holds Inv-loop μ-loop
+loop-holds c = search needs
+
+turn-requires : tie.Need-turn-requires Inv-loop μ-loop
+turn-requires c κs = search needs
+
+enum-told : tie.Need-enum-told Inv-loop μ-loop
+enum-told c = search needs
+
+said-requires : tie.Need-said-requires Inv-loop μ-loop
+said-requires c κs = search needs
+
+returns : tie.Need-returns Inv-loop μ-loop
+returns c = search needs
+
+sub-turns : tie.Need-sub-turns Inv-loop μ-loop
+sub-turns c = search needs
+
+loop-less : tie.Need-loop-less Inv-loop μ-loop
+loop-less c = search needs
+
+loop-again : tie.Need-loop-again Inv-loop μ-loop
+loop-again c = search needs
+
+returns-2 : tie.Need-returns-2 Inv-loop μ-loop
+returns-2 c = search needs
+
+pub replay-file-spec : {M : Type 1} → statement M
+replay-file-spec =
+    tie.close
+    (tie.spec
+    Inv-loop
+    μ-loop
+    new-requires
+    opened-requires
+    loop-holds
+    turn-requires
+    enum-told
+    said-requires
+    returns
+    sub-turns
+    loop-less
+    loop-again
+    returns-2)

@@ -1,0 +1,3 @@
+pub mod Rijndael
+pub mod Operations
+pub mod Model
