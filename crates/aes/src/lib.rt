@@ -1,4 +1,6 @@
 // AES, FIPS 197: one block encrypted or decrypted under a key of 16, 24 or 32 bytes.
+#![tactic(auto)]
+
 ghost use Rattle.std.specs.Prelude.{◌≡◌};
 ghost use Rattle.aes.specs.Calls.{encrypt_under, decrypt_under};
 

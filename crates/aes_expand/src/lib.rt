@@ -1,4 +1,6 @@
 // KEYEXPANSION of FIPS 197, 5.2: the words of the round keys from a key of that many words.
+#![tactic(auto)]
+
 ghost use Rattle.std.specs.Prelude.{◌≡◌, ◌+◌, ◌*◌, ◌≤◌, ◌<◌, min, length};
 ghost use Rattle.octets.specs.Octets.{over, entry};
 ghost use Rattle.octets.specs.Words.{word_at};

@@ -1,4 +1,6 @@
 // The inverse S-box by a lookup.
+#![tactic(auto)]
+
 ghost use Rattle.std.specs.Prelude.{◌≡◌};
 ghost use Rattle.octets.specs.Octets.{entry};
 ghost use Rattle.octets.specs.Model.{arm};

@@ -1,4 +1,6 @@
 // What a byte, through the inverse S-box, adds to a column mixed back: a word of four bytes, twice in a row, so that a shift turns it.
+#![tactic(auto)]
+
 ghost use Rattle.std.specs.Prelude.{◌≡◌};
 ghost use Rattle.octets.specs.Octets.{entry};
 ghost use Rattle.octets.specs.Model.{arm, twice};

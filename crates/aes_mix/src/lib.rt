@@ -1,4 +1,6 @@
 // The mixing of one column, and back: FIPS 197, 5.1.3 and 5.3.3, on a word of four bytes.
+#![tactic(auto)]
+
 ghost use Rattle.std.specs.Prelude.{◌≡◌};
 ghost use Rattle.aes_mix.specs.Mixing.{doubled, mix_column, inv_mix_column};
 

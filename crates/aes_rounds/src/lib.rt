@@ -1,4 +1,6 @@
 // One block encrypted under a schedule, and a piece added to a chain.
+#![tactic(auto)]
+
 mod loops;
 
 ghost use Rattle.std.specs.Prelude.{cond, ◌≡◌, ◌+◌, ◌≤◌, length, take, drop};

@@ -1,4 +1,6 @@
 // One block decrypted, under an inverse schedule.
+#![tactic(auto)]
+
 mod loops;
 
 ghost use Rattle.std.specs.Prelude.{◌≡◌};

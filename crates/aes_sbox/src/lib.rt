@@ -1,4 +1,6 @@
 // The S-box of FIPS 197 and its inverse, as tables.
+#![tactic(auto)]
+
 ghost use Rattle.std.specs.Prelude.{◌≡◌};
 ghost use Rattle.octets.specs.Octets.{tabulate};
 ghost use Rattle.aes_sbox.specs.Sbox.{s_box, inv_s_box};

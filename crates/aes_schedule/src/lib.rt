@@ -1,4 +1,6 @@
 // The key schedule of FIPS 197, 5.2: a key of 16, 24 or 32 bytes expanded into round keys.
+#![tactic(auto)]
+
 ghost use Rattle.std.specs.Prelude.{◌≡◌, ◌&&◌, eqb};
 ghost use Rattle.aes_sbox.specs.Sbox.{s_box};
 ghost use Rattle.aes_schedule.specs.Schedule.{schedule_of, key_number, round_count, first_word, key_size, answer_of};

@@ -1,4 +1,6 @@
 // The inverse schedule, FIPS 197, 5.3.5: the round keys are mixed back, so that lookups can mix the state before a key is added.
+#![tactic(auto)]
+
 ghost use Rattle.std.specs.Prelude.{◌≡◌, ◌≤◌, length};
 ghost use Rattle.aes_spec.specs.Model.{mixed_back, inverse_words};
 

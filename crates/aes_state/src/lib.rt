@@ -1,4 +1,6 @@
 // A state of FIPS 197 as four columns, each a word: a block loaded and stored.
+#![tactic(auto)]
+
 ghost use Rattle.std.specs.Prelude.{◌≡◌};
 ghost use Rattle.octets.specs.Words.{bytes_of};
 ghost use Rattle.aes_state.specs.Model.{block_of, columns_of};

@@ -1,4 +1,6 @@
 // Words of four bytes in one u32, the first byte highest: made of bytes, rotated, and substituted byte by byte.
+#![tactic(auto)]
+
 ghost use Rattle.std.specs.Prelude.{◌≡◌, ◌<◌, [], ◌∷◌};
 ghost use Rattle.octets.specs.Words.{word, byte, bytes_of};
 ghost use Rattle.octets.specs.Octets.{entry};

@@ -1,4 +1,6 @@
 // A record of a response file replayed: whether its fields are those that are computed.
+#![tactic(auto)]
+
 ghost use Rattle.std.specs.Prelude.{◌≡◌, not, ◌||◌};
 ghost use Rattle.octets.specs.Octets.{same};
 ghost use Rattle.aesavs.specs.Replay as spec;

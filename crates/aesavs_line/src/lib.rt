@@ -1,4 +1,6 @@
 // One line of a response file of AESAVS, and of the line before it that says which run the file is of.
+#![tactic(auto)]
+
 ghost use Rattle.std.specs.Prelude.{◌≡◌, length, ◌-◌};
 ghost use Rattle.aesavs_line.specs.Lines.{starts, count_of, field_line, mark_line, line_of, value_at, value_of, stripped};
 

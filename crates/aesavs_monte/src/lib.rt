@@ -1,4 +1,6 @@
 // The Monte Carlo chain of AESAVS, 6.4.1 and 6.4.2: a thousand steps a record, and what the next record starts from.
+#![tactic(auto)]
+
 mod keys;
 mod steps;
 

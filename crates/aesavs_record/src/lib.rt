@@ -1,4 +1,6 @@
 // How the lines of a response file make records.
+#![tactic(auto)]
+
 mod moves;
 mod rules;
 

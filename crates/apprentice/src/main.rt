@@ -1,5 +1,7 @@
 // Checks what an apprentice did by hand: standard input has four bytes, key then block, and each state after a key addition of
 // Simplified AES becomes a line of four hex digits. Bytes after these four are ignored.
+#![tactic(auto)]
+
 use libc::{STDIN_FILENO, STDOUT_FILENO};
 
 fn number(high: u8, low: u8) -> u16 {

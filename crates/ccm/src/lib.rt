@@ -1,4 +1,6 @@
 // CCM of SP 800-38C under AES, for berth messages: a nonce of 13 bytes, a tag of 8, up to 1,024 bytes of message and 64 of associated data.
+#![tactic(auto)]
+
 ghost use Rattle.std.specs.Prelude.{◌≡◌, ◌+◌, ◌≤◌, length};
 ghost use Rattle.aes_spec.specs.Cipher.{standard};
 ghost use Rattle.ccm.specs.Model as model;

@@ -1,4 +1,6 @@
 // The answer to a call of CCM: the lengths of the profile, the room, and the tag at the end.
+#![tactic(auto)]
+
 ghost use Rattle.std.specs.Prelude.{◌≡◌, ◌+◌, ◌-◌, ◌≤◌, take};
 ghost use Rattle.octets.specs.Octets.{same};
 ghost use Rattle.aes_schedule.specs.Schedule.{key_number};

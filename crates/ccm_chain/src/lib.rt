@@ -1,4 +1,6 @@
 // Yr of SP 800-38C, 6.1 and 6.2: the chain over B0, the associated data and the message, which comes as it is or sealed.
+#![tactic(auto)]
+
 mod head;
 
 ghost use Rattle.std.specs.Prelude.{◌≡◌};

@@ -1,4 +1,6 @@
 // The counter blocks of CCM, and a message added to what the cipher makes of them.
+#![tactic(auto)]
+
 mod last;
 
 ghost use Rattle.std.specs.Prelude.{◌≡◌, ◌+◌, ◌/◌, length, drop};

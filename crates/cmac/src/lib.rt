@@ -1,4 +1,6 @@
 // CMAC of SP 800-38B under AES: the check of a whole message, or running over its parts.
+#![tactic(auto)]
+
 ghost use Rattle.std.specs.Prelude.{◌≡◌};
 ghost use Rattle.aes_spec.specs.Cipher.{standard};
 ghost use Rattle.cmac_spec.specs.Cmac as spec;

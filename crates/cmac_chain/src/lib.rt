@@ -1,4 +1,6 @@
 // The chain of SP 800-38B, 6.2, over the whole pieces of a part: the check and the tag of CCM go through it.
+#![tactic(auto)]
+
 ghost use Rattle.std.specs.Prelude.{◌≡◌, ◌/◌, length};
 ghost use Rattle.aes_spec.specs.Cipher.{standard};
 ghost use Rattle.cmac_spec.specs.Cmac as spec;

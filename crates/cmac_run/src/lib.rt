@@ -1,4 +1,6 @@
 // The running check: what is fed goes into the chain piece by piece, except the last piece, which is held until more comes.
+#![tactic(auto)]
+
 ghost use Rattle.std.specs.Prelude.{◌≡◌, ◌-◌, ◌/◌};
 ghost use Rattle.aes_spec.specs.Cipher.{standard};
 ghost use Rattle.cmac_run.specs.Running as running;

@@ -1,4 +1,6 @@
 // The pieces of a message that goes through CMAC of SP 800-38B: filled up as their bytes come, and the last one with its subkey.
+#![tactic(auto)]
+
 mod doubling;
 
 ghost use Rattle.std.specs.Prelude.{cond, ◌≡◌, ◌++◌, ◌-◌, get_or, take, ltb};

@@ -1,4 +1,6 @@
 // Reads lines on standard input and answers each with one line on standard output. It stops where these cannot be read or written.
+#![tactic(auto)]
+
 mod apprentice_lines;
 mod args;
 mod calls;

@@ -1,5 +1,7 @@
 // What C links: the calls on slices and numbers, with the refusals' numbers in place of enums, and structs by value but for the
 // record of a running check, which is lent to be fed.
+#![tactic(auto)]
+
 ghost use Rattle.std.specs.Prelude.{◌≡◌};
 ghost use Rattle.field.specs.Field.{◌•◌};
 ghost use Rattle.aes_sbox.specs.Sbox.{s_box};

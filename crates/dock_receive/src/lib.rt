@@ -1,4 +1,6 @@
 // What a receiver answers, as C has it: numbers in place of enums.
+#![tactic(auto)]
+
 ghost use Rattle.std.specs.Prelude.{◌≡◌, List};
 ghost use Rattle.dock_receive.specs.Answers.{value_in, start_told, done_told};
 

@@ -1,4 +1,6 @@
 // What a turn did, as C has it: numbers in place of enums.
+#![tactic(auto)]
+
 ghost use Rattle.std.specs.Prelude.{◌≡◌};
 ghost use Rattle.image_reasons.specs.Reasons.{reason_value};
 ghost use Rattle.image_reader_tally.specs.Tally.{stop_number};

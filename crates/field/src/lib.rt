@@ -1,4 +1,6 @@
 // The field of FIPS 197, section 4: doubling and the product of two bytes.
+#![tactic(auto)]
+
 ghost use Rattle.std.specs.Prelude.{◌≡◌};
 ghost use Rattle.field.specs.Field.{x_times, ◌•◌};
 ghost use Rattle.field.specs.Logarithms.{added};

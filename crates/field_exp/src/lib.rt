@@ -1,4 +1,6 @@
 // The table E, the powers of 03. With L of `field_log` it multiplies two bytes.
+#![tactic(auto)]
+
 ghost use Rattle.std.specs.Prelude.{◌≡◌};
 ghost use Rattle.octets.specs.Octets.{entry};
 ghost use Rattle.field_exp.specs.Model.{e_table};

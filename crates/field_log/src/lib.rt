@@ -1,4 +1,6 @@
 // The table L, the logarithms to the base 03. With E of `field_exp` it multiplies two bytes.
+#![tactic(auto)]
+
 ghost use Rattle.std.specs.Prelude.{◌≡◌};
 ghost use Rattle.octets.specs.Octets.{entry};
 ghost use Rattle.field_log.specs.Model.{l_table};

@@ -1,5 +1,7 @@
 // The check of a block of an image, with the schedule and the subkeys lent that it is made under: made, and asked of a block.
 // What is not a block of 512 bytes has no right check.
+#![tactic(auto)]
+
 ghost use Rattle.std.specs.Prelude.{◌≡◌, ◌&&◌, ◌++◌};
 ghost use Rattle.image_spec.specs.Sealed.{checks};
 ghost use Rattle.image_spec.specs.KeyPair.{usable};

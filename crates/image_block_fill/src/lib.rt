@@ -1,4 +1,6 @@
 // Whether what follows a payload in its block is zero, found piece by piece: no more than 16 decrypted bytes are held.
+#![tactic(auto)]
+
 ghost use Rattle.std.specs.Prelude.{◌≡◌, ◌&&◌, not, ◌<◌, eqb, leb, length, take, drop};
 ghost use Rattle.aes_spec.specs.Cipher.{encrypt_block};
 ghost use Rattle.aes_spec.specs.Model.{equivalent_cipher};

@@ -1,4 +1,6 @@
 // The verdict on a block of an image, under the schedules and subkeys that are lent to it.
+#![tactic(auto)]
+
 ghost use Rattle.std.specs.Prelude.{◌≡◌};
 ghost use Rattle.image_spec.specs.Judge.{of_both};
 ghost use Rattle.image_spec.specs.Model.{lent_keys, head_read_of, judged};

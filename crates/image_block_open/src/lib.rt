@@ -1,4 +1,6 @@
 // One block of an image opened, under the schedules that are lent to it.
+#![tactic(auto)]
+
 ghost use Rattle.std.specs.Prelude.{◌≡◌};
 ghost use Rattle.aes_spec.specs.Model.{equivalent_cipher};
 ghost use Rattle.image_spec.specs.Model.{opened_over};

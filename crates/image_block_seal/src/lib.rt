@@ -1,4 +1,6 @@
 // One block of an image sealed, with the schedules and the subkeys lent that it is sealed under.
+#![tactic(auto)]
+
 ghost use Rattle.std.specs.Prelude.{◌≡◌, ◌≤◌, length};
 ghost use Rattle.octets.specs.Octets.{over};
 ghost use Rattle.aes_spec.specs.Cipher.{standard};

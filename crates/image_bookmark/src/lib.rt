@@ -1,4 +1,6 @@
 // The bytes of a bookmark that its check covers: how far a reader has come, and how many payload bytes it has accepted.
+#![tactic(auto)]
+
 ghost use Rattle.std.specs.Prelude.{◌≡◌, [], ◌∷◌};
 ghost use Rattle.octets.specs.Words.{bytes_of};
 ghost use Rattle.image_bookmark.specs.Bookmark.{long_bytes, front_of_lem, progress_in, bytes_in};

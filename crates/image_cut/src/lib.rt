@@ -1,4 +1,6 @@
 // How the payload of a release is split into the blocks of its image: how many there are, and which bytes are block i.
+#![tactic(auto)]
+
 ghost use Rattle.std.specs.Prelude.{◌≡◌};
 ghost use Rattle.modes_spec.specs.Pieces.{piece};
 ghost use Rattle.image_cut.specs.Cut.{count_of};

@@ -1,4 +1,6 @@
 // The header of a block of an image: its fields, and its bytes.
+#![tactic(auto)]
+
 ghost use Rattle.std.specs.Prelude.{◌≡◌, ◌+◌, ◌*◌};
 ghost use Rattle.image_layout.specs.Layout.{head_of_lem, head_bytes_of};
 

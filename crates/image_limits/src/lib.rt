@@ -1,4 +1,6 @@
 // The rules on the single numbers of a block's header, and the editions.
+#![tactic(auto)]
+
 ghost use Rattle.std.specs.Prelude.{◌≡◌, ◌&&◌, ◌||◌, ◌+◌, eqb, ltb, leb};
 ghost use Rattle.image_layout.specs.Layout.{body_size};
 ghost use Rattle.image_limits.specs.Fits.{count_fits_of, length_fits};

@@ -1,4 +1,6 @@
 // How far a reader has come, and what follows from it.
+#![tactic(auto)]
+
 ghost use Rattle.std.specs.Prelude.{◌≡◌};
 ghost use Rattle.image_progress.specs.Progress.{completion_number, done, closed, mark_for};
 

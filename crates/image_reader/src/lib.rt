@@ -1,4 +1,6 @@
 // The reader of release images: started, a turn over lent blocks, and whether it is complete.
+#![tactic(auto)]
+
 ghost use Rattle.std.specs.Prelude.{◌≡◌};
 ghost use Rattle.image_reader.specs.Calls as spec;
 

@@ -1,4 +1,6 @@
 // Bookmarks: how far a reader has come, kept where nothing is trusted, and the reader taken up again from there.
+#![tactic(auto)]
+
 ghost use Rattle.std.specs.Prelude.{◌≡◌, ◌++◌, length};
 ghost use Rattle.aes_spec.specs.Cipher.{standard};
 ghost use Rattle.cmac_spec.specs.Cmac.{cmac};

@@ -1,4 +1,6 @@
 // What a turn of a reader has done, block by block: how far it has come, what it has counted, and how it stopped.
+#![tactic(auto)]
+
 ghost use Rattle.std.specs.Prelude.{◌≡◌, ◌&&◌, nat_le, nat_lt};
 ghost use Rattle.image_reader_tally.specs.Tally as spec;
 ghost use Rattle.image_reader_tally.specs.Model as model;

@@ -1,4 +1,6 @@
 // A turn of a reader over the blocks lent to it, up to the first that is refused, under two schedules that are lent.
+#![tactic(auto)]
+
 ghost use Rattle.std.specs.Prelude.{◌≡◌, ◌*◌, ◌≤◌, min, length};
 ghost use Rattle.image_spec.specs.Judge.{of_both};
 ghost use Rattle.image_spec.specs.KeyPair.{keys_under};

@@ -1,4 +1,6 @@
 // Why a block is refused: the reasons, their numbers and the values that they hold.
+#![tactic(auto)]
+
 ghost use Rattle.std.specs.Prelude.{◌≡◌};
 ghost use Rattle.image_reasons.specs.Reasons.{reason_number, reason_value, value_of};
 

@@ -1,4 +1,6 @@
 // The receiver of release images: it takes the blocks of one image of edition 1 in any order, each into its own place of a lent store.
+#![tactic(auto)]
+
 ghost use Rattle.std.specs.Prelude.{◌≡◌};
 ghost use Rattle.image_receiver.specs.Calls as spec;
 

@@ -1,4 +1,6 @@
 // What a receiver knows about its image, what it answers, and its tests of room and header.
+#![tactic(auto)]
+
 ghost use Rattle.std.specs.Prelude.{◌≡◌};
 ghost use Rattle.image_reasons.specs.Reasons.{value_of};
 ghost use Rattle.image_receiver_answer.specs.Answers as spec;

@@ -1,4 +1,6 @@
 // One block received, under the schedules that are lent for it.
+#![tactic(auto)]
+
 ghost use Rattle.std.specs.Prelude.{◌≡◌, true, ◌&&◌, cond, [], ◌<◌, length};
 ghost use Rattle.aes_schedule.specs.Schedule.{round_count};
 ghost use Rattle.aes_spec.specs.Cipher.{standard};

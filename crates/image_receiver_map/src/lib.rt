@@ -1,4 +1,6 @@
 // The map of the blocks that a receiver holds: bit n mod 8, 0 the lowest, of byte n / 8 for block n.
+#![tactic(auto)]
+
 ghost use Rattle.std.specs.Prelude.{◌≡◌, ◌<◌, min, eqb};
 ghost use Rattle.image_receiver_map.specs.Map.{map_size, worth, bit_of, with_bit, bit_at, bit_put, cleared};
 

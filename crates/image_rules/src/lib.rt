@@ -1,4 +1,6 @@
 // The tests that a reader makes of a block's header.
+#![tactic(auto)]
+
 ghost use Rattle.std.specs.Prelude.{◌≡◌, ◌&&◌, not, eqb, ltb};
 ghost use Rattle.image_reasons.specs.Reasons.{first_of};
 ghost use Rattle.image_rules.specs.Rules.{head_tests};

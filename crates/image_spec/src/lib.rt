@@ -1,4 +1,6 @@
 // What one block of an image is, sealed, opened and judged, for an edition of the format, and its laws: no code, only two types.
+#![tactic(auto)]
+
 use image_layout::Head;
 use image_reasons::Verdict;
 

@@ -1,5 +1,7 @@
 // A view of a stored image: it holds the lent image and shows any block of it by its place, or the check of that block. What is
 // shown is a part of the image itself, and nothing is verified.
+#![tactic(auto)]
+
 ghost use Rattle.std.specs.Prelude.{◌≡◌, ◌+◌, ◌≤◌, length};
 ghost use Rattle.image_view.specs.Views.{made_number, held_of, held_length, blocks_in, shown_number, part_of, offset_of, size_of, block_shown, check_shown, Within, answer_of, block_answer, check_answer};
 

@@ -1,4 +1,6 @@
 // The writer of release images: one block, sealed under two keys.
+#![tactic(auto)]
+
 ghost use Rattle.std.specs.Prelude.{◌≡◌, true, ◌≤◌, length};
 ghost use Rattle.image_limits.specs.Marks.{is_edition};
 ghost use Rattle.image_spec.specs.Edition.{tail_of, edition};

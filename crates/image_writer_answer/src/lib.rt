@@ -1,4 +1,6 @@
 // The answer to a call of the writer, from the numbers for the header of the block.
+#![tactic(auto)]
+
 ghost use Rattle.std.specs.Prelude.{◌≡◌};
 ghost use Rattle.image_writer_answer.specs.Answers.{write_number, write_ruled, last_for};
 

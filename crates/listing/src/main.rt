@@ -1,5 +1,7 @@
 // Lists the blocks of an image, a line each. Standard input has two keys of 16 bytes and then the blocks. `dock` starts it with the
 // names of a key file and an image instead, and then it reports on a descriptor whether the whole file was accepted.
+#![tactic(auto)]
+
 mod rows;
 mod source;
 

@@ -1,4 +1,6 @@
 // The modes of SP 800-38A under a key: ECB, CBC and CFB with 16-byte segments each way, on whole pieces of 16 bytes, and OFB on any length.
+#![tactic(auto)]
+
 ghost use Rattle.std.specs.Prelude.{◌≡◌};
 ghost use Rattle.aes_spec.specs.Model.{equivalent_cipher, inverse_words};
 ghost use Rattle.modes_spec.specs.Modes as standard;

@@ -1,4 +1,6 @@
 // What a call of a mode is answered with before anything is done, from the answer for the key and from the lengths that each operation takes.
+#![tactic(auto)]
+
 ghost use Rattle.std.specs.Prelude.{◌≡◌};
 ghost use Rattle.aes_schedule.specs.Schedule.{key_number};
 ghost use Rattle.modes_spec.specs.Modes.{iv_length, any_length};

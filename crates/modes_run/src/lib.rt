@@ -1,5 +1,7 @@
 // Pieces of 16 bytes through an operation of a mode, in OFB a short last one too, under a schedule that is lent:
 // the inverse one if the operation inverts, otherwise the forward one.
+#![tactic(auto)]
+
 mod last;
 
 ghost use Rattle.std.specs.Prelude.{◌≡◌};

@@ -1,5 +1,7 @@
 // One piece of 16 bytes through an operation of a mode, under a schedule that is lent:
 // that of the way back where the operation inverts, of the way forth elsewhere.
+#![tactic(auto)]
+
 ghost use Rattle.std.specs.Prelude.{◌≡◌};
 ghost use Rattle.aes_spec.specs.Model.{one_way};
 ghost use Rattle.modes_spec.specs.Modes.{machine};

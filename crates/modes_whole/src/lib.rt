@@ -1,5 +1,7 @@
 // Whole pieces of 16 bytes through an operation of a mode, one after the other, under a schedule that is lent:
 // that of the way back where the operation inverts, of the way forth elsewhere.
+#![tactic(auto)]
+
 ghost use Rattle.std.specs.Prelude.{◌≡◌, ◌*◌, ◌≤◌, min, length};
 ghost use Rattle.modes_spec.specs.Pieces.{ran};
 ghost use Rattle.modes_spec.specs.declared.Operation.TheVariants.{CbcDecrypt};

@@ -1,4 +1,6 @@
 // Blocks of 16 bytes by value: out of a slice, into a slice, and their sum.
+#![tactic(auto)]
+
 ghost use Rattle.std.specs.Prelude.{◌≡◌, ◌+◌, ◌≤◌, length, take, drop};
 ghost use Rattle.octets.specs.Blocks.{◌⊕◌};
 ghost use Rattle.octets_slice.specs.Slices.{copied};

@@ -1,6 +1,8 @@
 // Seals a file into a release image, or opens, checks, lists or shows an image. `dock` starts it with the words VERB KEYS INPUT and then
 // those of the verb: the temporary file that an output is written to, RELEASE and EDITION, PLACE, the form. The last line that it writes
 // is its answer; where it prints rows, its answer is a word on descriptor 3.
+#![tactic(auto)]
+
 mod alone;
 mod card;
 mod clock;

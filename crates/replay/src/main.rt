@@ -1,6 +1,8 @@
 // Replays a response file of AESAVS: reads on standard input a line `kat` or `mct` and then the file, and answers each record with its
 // COUNT and 0 or the field that differs first, and a line outside the form with 22 and its number; then it stops. `dock` starts it with
 // the run and the name of a file instead, and then it reports on a descriptor whether every record agreed.
+#![tactic(auto)]
+
 mod answers;
 mod record;
 mod streams;

@@ -1,4 +1,6 @@
 // Rijndael with blocks of 24 and of 32 bytes under a key, in ECB and CBC. Images stay on blocks of 16 bytes: AES.
+#![tactic(auto)]
+
 mod answer;
 mod pieces;
 mod words;

@@ -1,4 +1,6 @@
 // The rounds of the wide cipher on columns, by lookups in a table that is lent.
+#![tactic(auto)]
+
 mod lookups;
 mod rounds;
 

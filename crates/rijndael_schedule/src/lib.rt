@@ -1,4 +1,6 @@
 // The key schedule of Rijndael with wide blocks: a key of 16, 24 or 32 bytes expanded into round keys of six or eight words, and mixed back.
+#![tactic(auto)]
+
 ghost use Rattle.std.specs.Prelude.{◌≡◌, ◌≤◌, max, length};
 ghost use Rattle.aes_spec.specs.Model.{mixed_back};
 ghost use Rattle.rijndael_spec.specs.Rijndael.{shape_of, takes_key, wide_words, wide_rounds, wide_round_count};

@@ -1,4 +1,6 @@
 // Simplified AES, the bench model for apprentices: every 16-bit key and block is valid, so no call refuses.
+#![tactic(auto)]
+
 mod nibbles;
 mod steps;
 

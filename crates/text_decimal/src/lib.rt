@@ -1,4 +1,6 @@
 // Words of decimal digits read as numbers.
+#![tactic(auto)]
+
 ghost use Rattle.std.specs.Prelude.{◌≡◌};
 ghost use Rattle.text_decimal.specs.Numbers.{more_of, number_of};
 

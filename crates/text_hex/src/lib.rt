@@ -1,4 +1,6 @@
 // Words of hex digits read as bytes, and bytes written as such a word.
+#![tactic(auto)]
+
 mod spelling;
 
 ghost use Rattle.std.specs.Prelude.{◌≡◌, true, ◌+◌, ◌*◌, ◌≤◌, ◌<◌, length};

@@ -1,4 +1,6 @@
 // Lines gathered from an input that comes in parts, each into the front of lent memory.
+#![tactic(auto)]
+
 ghost use Rattle.std.specs.Prelude.{◌≡◌};
 ghost use Rattle.octets_slice.specs.Slices.{copied};
 ghost use Rattle.text_lines.specs.Gathering.{no_line, has_begun, extended, gathered, line_in};

@@ -1,4 +1,6 @@
 // Text put into lent memory at a place.
+#![tactic(auto)]
+
 ghost use Rattle.std.specs.Prelude.{◌≡◌};
 ghost use Rattle.octets_slice.specs.Slices.{copied};
 ghost use Rattle.text_put.specs.Places.{place_after};

@@ -1,4 +1,6 @@
 // Lines of text: words separated by one space.
+#![tactic(auto)]
+
 mod spaces;
 
 ghost use Rattle.std.specs.Prelude.{◌≡◌};

@@ -1,4 +1,6 @@
 // The key wrap of RFC 3394 under AES: replacement keys, wrapped under a key that the receiver has.
+#![tactic(auto)]
+
 ghost use Rattle.std.specs.Prelude.{◌≡◌, ◌+◌, ◌%◌, ◌≤◌, length};
 ghost use Rattle.octets.specs.Octets.{pad_to, over};
 ghost use Rattle.aes_spec.specs.Cipher.{standard};

@@ -1,4 +1,6 @@
 // The answer to a call of the key wrap: the lengths in the rule, the room, and A at the end.
+#![tactic(auto)]
+
 ghost use Rattle.std.specs.Prelude.{◌≡◌, ◌+◌, ◌-◌};
 ghost use Rattle.octets.specs.Octets.{same};
 ghost use Rattle.aes_schedule.specs.Schedule.{key_number};

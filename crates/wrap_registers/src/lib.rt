@@ -1,4 +1,6 @@
 // The registers A, R[1] to R[n] of the key wrap, through the steps of RFC 3394, 2.2.1 and 2.2.2 in their index form, in place.
+#![tactic(auto)]
+
 mod halves;
 
 ghost use Rattle.std.specs.Prelude.{◌≡◌, ◌+◌, ◌*◌, ◌≤◌, ◌<◌, length};

@@ -1,0 +1,15 @@
+use mathlib.Core.Path.{◌≡◌, refl, ap, ◌∙◌}
+use Prim.Native.Nat.{◌-◌, ◌≤◌, ◌+◌, suc}
+use lib.ListN.{length, length-set}
+use lib.Seq.{paste, paste-zero, paste-suc}
+use borrow.Author.Rules.{rules}
+use native.Mathlib.Omega.{arith}
+use Rattle.octets_slice.proofs.put_all.Given as goal
+
+abbrev pub invariant-loop-k : goal.invariant-loop-k
+invariant-loop-k l = (l.k ≤ length l.s) × (l.k-end ≡ length l.s) × (length l.w ≡ length l.initial.w) × (l.w ≡ paste l.initial.w l.at l.s l.k)
+
+-- MEASURES
+-- abbrev pub decreases-loop-k : goal.decreases-loop-k
+-- decreases-loop-k l = length l.s - l.k
+-- 
