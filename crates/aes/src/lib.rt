@@ -10,7 +10,7 @@ use aes_schedule::{KeyAnswer, answer_of, schedule_into};
 use aes_schedule_inverse::invert;
 
 // The answer for the key, and the block: zeros if the key was refused.
-#[derive(Drop)]
+#[derive(Clone, Copy)]
 pub struct Ciphered {
     pub answer: KeyAnswer,
     pub block: [u8; 16],

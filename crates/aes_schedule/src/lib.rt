@@ -9,7 +9,7 @@ use aes_expand::expand_into;
 use aes_sbox::table;
 
 // Whether the key was taken, or refused for its length.
-#[derive(Drop)]
+#[derive(Clone, Copy)]
 pub enum KeyAnswer {
     Taken,
     KeyLength,
@@ -17,30 +17,30 @@ pub enum KeyAnswer {
 
 // The words of the round keys, with zeros past the last, and the number of rounds: 10, 12 or 14, or 0 if no key made it.
 #[repr(C)]
-#[derive(Drop)]
+#[derive(Clone, Copy)]
 pub struct KeySchedule {
     pub words: [u32; 60],
     pub rounds: usize,
 }
 
-#[derive(Drop)]
+#[derive(Clone, Copy)]
 pub struct Expanded {
     pub answer: KeyAnswer,
     pub schedule: KeySchedule,
 }
 
 // The words of a key, and the rounds that it gives.
-#[derive(Drop)]
+#[derive(Clone, Copy)]
 struct KeySize {
     words: usize,
     rounds: usize,
 }
 
 // Round keys and words are counted separately.
-#[derive(Drop)]
+#[derive(Clone, Copy)]
 pub struct RoundKeyNumber(pub usize);
 
-#[derive(Drop)]
+#[derive(Clone, Copy)]
 pub struct WordNumber(pub usize);
 
 impl KeyAnswer {

@@ -8,7 +8,7 @@ ghost use Rattle.aes_state.specs.Model.{block_of, columns_of};
 use aes_words::{join, word_bytes};
 
 // Each column is a word, its first byte the highest.
-#[derive(Drop)]
+#[derive(Clone, Copy)]
 pub struct Columns(pub u32, pub u32, pub u32, pub u32);
 
 pub fn columns_of(block: [u8; 16]) -> Columns

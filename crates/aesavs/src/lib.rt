@@ -11,14 +11,14 @@ use modes::apply;
 use octets_slice::{equal, part};
 
 // The answer to a record: 0, or its first field that differs.
-#[derive(Drop)]
+#[derive(Clone, Copy)]
 pub enum Verdict {
     Agrees,
     Differs(Field),
 }
 
 // The answer to a Monte Carlo record, and what the next one must start from.
-#[derive(Drop)]
+#[derive(Clone, Copy)]
 pub struct Replayed {
     pub verdict: Verdict,
     pub next: Link,

@@ -8,21 +8,21 @@ use octets_slice::{equal, part};
 use text_decimal::{Number, decimal};
 
 // The run that a file is of: known answers or Monte Carlo.
-#[derive(Drop)]
+#[derive(Clone, Copy)]
 pub enum Run {
     Known,
     Monte,
 }
 
 // What the records of a section do.
-#[derive(Drop)]
+#[derive(Clone, Copy)]
 pub enum Way {
     Encrypting,
     Decrypting,
 }
 
 // What a record has in addition to its COUNT.
-#[derive(Drop)]
+#[derive(Clone, Copy)]
 pub enum Field {
     Key,
     Iv,
@@ -31,7 +31,7 @@ pub enum Field {
 }
 
 // What a line is. The value of a field is what follows its name: `value` returns it.
-#[derive(Drop)]
+#[derive(Clone, Copy)]
 pub enum Line {
     Skipped,
     Opens(Run),

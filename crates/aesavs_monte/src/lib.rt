@@ -15,7 +15,7 @@ use octets_slice::{copy, part};
 use steps::thousand;
 
 // How far the thousand steps have come: the chaining value, the last two outputs, the IV before there are any, and the input of the next step.
-#[derive(Drop)]
+#[derive(Clone, Copy)]
 pub struct Turn {
     pub chain: [u8; 16],
     pub before: [u8; 16],
@@ -24,7 +24,7 @@ pub struct Turn {
 }
 
 // What a record starts from: a key of `size` bytes, the IV, zeros in ECB, and the first text.
-#[derive(Drop)]
+#[derive(Clone, Copy)]
 pub struct Link {
     pub key: [u8; 32],
     pub size: usize,
@@ -33,7 +33,7 @@ pub struct Link {
 }
 
 // The output of a record, and what the next one starts from.
-#[derive(Drop)]
+#[derive(Clone, Copy)]
 pub struct Ran {
     pub output: [u8; 16],
     pub next: Link,

@@ -12,7 +12,7 @@ use moves::{counted, goes, marked, opened, passed, refused, took};
 use rules::{begins, follows, is_between, kind_fits, size_fits};
 
 // The role of a field in its record: which text comes first depends on the section.
-#[derive(Drop)]
+#[derive(Clone, Copy)]
 pub enum Role {
     KeyOf,
     IvOf,
@@ -21,7 +21,7 @@ pub enum Role {
 }
 
 // What may come next: the line `kat` or `mct`; a mark; a mark or a COUNT; the KEY; the IV or the first text; the first text; the second text.
-#[derive(Drop)]
+#[derive(Clone, Copy)]
 pub enum Stage {
     AtStart,
     AtMark,
@@ -33,21 +33,21 @@ pub enum Stage {
 }
 
 // Whether the records of a section have an IV: its first record says so.
-#[derive(Drop)]
+#[derive(Clone, Copy)]
 pub enum Kind {
     Unknown,
     Ecb,
     Cbc,
 }
 
-#[derive(Drop)]
+#[derive(Clone, Copy)]
 pub struct Section {
     pub way: Way,
     pub kind: Kind,
 }
 
 // A record as far as it has come: its COUNT, how many bytes its key and its first text have, and whether it has an IV.
-#[derive(Drop)]
+#[derive(Clone, Copy)]
 pub struct Record {
     pub count: u64,
     pub key: usize,
@@ -56,7 +56,7 @@ pub struct Record {
 }
 
 // How far the reading has come, with the number of lines read.
-#[derive(Drop)]
+#[derive(Clone, Copy)]
 pub struct Standing {
     pub lines: u64,
     pub run: Run,
@@ -66,14 +66,14 @@ pub struct Standing {
 }
 
 // The answer to a line: nothing, the record that it completes, or 22 with its number, which is then in `lines`.
-#[derive(Drop)]
+#[derive(Clone, Copy)]
 pub enum Deed {
     Goes,
     Answers,
     Refuses,
 }
 
-#[derive(Drop)]
+#[derive(Clone, Copy)]
 pub struct Stepped {
     pub standing: Standing,
     pub deed: Deed,

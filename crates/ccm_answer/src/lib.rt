@@ -11,7 +11,7 @@ use aes_schedule::KeyAnswer;
 use octets_slice::equal;
 
 // The case of the call, or why it was refused.
-#[derive(Drop)]
+#[derive(Clone, Copy)]
 pub enum CcmAnswer {
     CcmDone,
     CcmKey,

@@ -11,7 +11,7 @@ use aes_schedule::{KeyAnswer, KeySchedule};
 use cmac_run::Run;
 
 // The answer for the key, and the check: zeros if the key was refused.
-#[derive(Drop)]
+#[derive(Clone, Copy)]
 pub struct Checked {
     pub answer: KeyAnswer,
     pub check: [u8; 16],
@@ -19,7 +19,7 @@ pub struct Checked {
 
 // A running check: the schedule of its key, the value of the chain, and the bytes that are not in the chain yet, of which there are up to 16.
 #[repr(C)]
-#[derive(Drop)]
+#[derive(Clone, Copy)]
 pub struct Record {
     pub words: [u32; 60],
     pub rounds: usize,
@@ -29,7 +29,7 @@ pub struct Record {
 }
 
 // The answer for the key, and the record: zeros if the key was refused.
-#[derive(Drop)]
+#[derive(Clone, Copy)]
 pub struct Started {
     pub answer: KeyAnswer,
     pub record: Record,

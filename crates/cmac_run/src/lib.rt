@@ -11,7 +11,7 @@ use cmac_subkeys::{last, piece_filled};
 use octets_block::xor;
 
 // The value of the chain, and the bytes that are not in it yet, of which there are up to 16.
-#[derive(Drop)]
+#[derive(Clone, Copy)]
 pub struct Run {
     pub chain: [u8; 16],
     pub held: [u8; 16],

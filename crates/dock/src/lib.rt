@@ -48,14 +48,14 @@ use saes_spec::States;
 
 // Sixteen bytes by value: C passes no array so.
 #[repr(C)]
-#[derive(Drop)]
+#[derive(Clone, Copy)]
 pub struct Block {
     pub bytes: [u8; 16],
 }
 
 // In the answers a number other than 0 is that of a refusal; next to that of a refused key there are zeros.
 #[repr(C)]
-#[derive(Drop)]
+#[derive(Clone, Copy)]
 pub struct ScheduleAnswer {
     pub number: u32,
     pub words: [u32; 60],
@@ -63,7 +63,7 @@ pub struct ScheduleAnswer {
 }
 
 #[repr(C)]
-#[derive(Drop)]
+#[derive(Clone, Copy)]
 pub struct BlockAnswer {
     pub number: u32,
     pub block: [u8; 16],
@@ -71,7 +71,7 @@ pub struct BlockAnswer {
 
 // `next` is the next chaining value of a mode, zeros if the call was refused.
 #[repr(C)]
-#[derive(Drop)]
+#[derive(Clone, Copy)]
 pub struct ChainAnswer {
     pub number: u32,
     pub next: [u8; 16],
@@ -79,35 +79,35 @@ pub struct ChainAnswer {
 
 // The same of the modes over blocks of 24 and of 32 bytes.
 #[repr(C)]
-#[derive(Drop)]
+#[derive(Clone, Copy)]
 pub struct Chain24Answer {
     pub number: u32,
     pub next: [u8; 24],
 }
 
 #[repr(C)]
-#[derive(Drop)]
+#[derive(Clone, Copy)]
 pub struct Chain32Answer {
     pub number: u32,
     pub next: [u8; 32],
 }
 
 #[repr(C)]
-#[derive(Drop)]
+#[derive(Clone, Copy)]
 pub struct CheckAnswer {
     pub number: u32,
     pub check: [u8; 16],
 }
 
 #[repr(C)]
-#[derive(Drop)]
+#[derive(Clone, Copy)]
 pub struct StartAnswer {
     pub number: u32,
     pub record: Record,
 }
 
 #[repr(C)]
-#[derive(Drop)]
+#[derive(Clone, Copy)]
 pub struct ReadStartAnswer {
     pub number: u32,
     pub reader: Reader,
@@ -115,14 +115,14 @@ pub struct ReadStartAnswer {
 
 // Fifty-six bytes by value.
 #[repr(C)]
-#[derive(Drop)]
+#[derive(Clone, Copy)]
 pub struct Bookmark {
     pub bytes: [u8; 56],
 }
 
 // `bytes` is the payload that the reader had accepted.
 #[repr(C)]
-#[derive(Drop)]
+#[derive(Clone, Copy)]
 pub struct ResumeAnswer {
     pub number: u32,
     pub bytes: u64,

@@ -9,7 +9,7 @@ use image_receiver::{ReceiveDone, ReceiveStarted, Receiver};
 
 // The answer to a start or to a block: its number, the value that a refusal holds, 0 where it holds none, and the receiver.
 #[repr(C)]
-#[derive(Drop)]
+#[derive(Clone, Copy)]
 pub struct ReceiverAnswer {
     pub number: u32,
     pub value: u32,

@@ -13,7 +13,7 @@ use image_reasons::{Reason, Value};
 // What a turn did. `number` is that of a refusal of the whole turn; a block that stopped it has its place and reason, and the
 // value that the reason holds. There are zeros where there is none.
 #[repr(C)]
-#[derive(Drop)]
+#[derive(Clone, Copy)]
 pub struct TurnAnswer {
     pub number: u32,
     pub reason: u32,
@@ -42,7 +42,7 @@ pub fn turn_answer(t: Turn) -> TurnAnswer
 }
 
 // A refusal of the whole turn, or the reason of the block that stopped it, the value that it holds, and the block's place.
-#[derive(Drop)]
+#[derive(Clone, Copy)]
 pub struct Told {
     pub number: u32,
     pub reason: u32,

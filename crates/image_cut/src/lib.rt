@@ -8,7 +8,7 @@ ghost use Rattle.image_cut.specs.Cut.{count_of};
 // The most bytes that an image can hold: 65,535 blocks of 480.
 pub const MOST: usize = 31456800;
 
-#[derive(Drop)]
+#[derive(Clone, Copy)]
 pub enum Counted {
     Blocks(u32),
     TooLong,

@@ -6,7 +6,7 @@ ghost use Rattle.image_layout.specs.Layout.{head_of_lem, head_bytes_of};
 
 use aes_words::{join, word_bytes};
 
-#[derive(Drop)]
+#[derive(Clone, Copy)]
 pub struct Head {
     pub number: u32,
     pub count: u32,

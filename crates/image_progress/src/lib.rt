@@ -9,7 +9,7 @@ use image_limits::{edition_selected, mark_of};
 // How far a reader has come: the number that it expects, and, if that is not 0, the count, release and edition that its first
 // accepted block fixed; and the check of the block that it accepted last, zeros before the first.
 #[repr(C)]
-#[derive(Drop)]
+#[derive(Clone, Copy)]
 pub struct Progress {
     pub next: u32,
     pub count: u32,
@@ -19,7 +19,7 @@ pub struct Progress {
 }
 
 // Whether an image is complete.
-#[derive(Drop)]
+#[derive(Clone, Copy)]
 pub enum Completion {
     Complete,
     NotComplete,

@@ -12,7 +12,7 @@ use image_spec::Rounds;
 
 // The schedules of the encryption key and of the check key, and how far the reader has come.
 #[repr(C)]
-#[derive(Drop)]
+#[derive(Clone, Copy)]
 pub struct Reader {
     pub enc: KeySchedule,
     pub chk: KeySchedule,
@@ -20,14 +20,14 @@ pub struct Reader {
 }
 
 // The answer for the keys, and the reader: zeros if a key was refused.
-#[derive(Drop)]
+#[derive(Clone, Copy)]
 pub struct ReadStarted {
     pub answer: KeyAnswer,
     pub reader: Reader,
 }
 
 // The reader after a turn, the blocks accepted, the sum of their payload lengths, and how it stopped.
-#[derive(Drop)]
+#[derive(Clone, Copy)]
 pub struct Turn {
     pub reader: Reader,
     pub accepted: usize,

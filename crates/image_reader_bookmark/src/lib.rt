@@ -15,7 +15,7 @@ use octets_block::store;
 use octets_slice::{copy, equal};
 
 // What resuming is answered with.
-#[derive(Drop)]
+#[derive(Clone, Copy)]
 pub enum ResumeAnswer {
     Resumed,
     KeyLength,
@@ -23,7 +23,7 @@ pub enum ResumeAnswer {
 }
 
 // The answer, the reader, and the payload bytes that it had accepted: zeros where the call was refused.
-#[derive(Drop)]
+#[derive(Clone, Copy)]
 pub struct ReadResumed {
     pub answer: ResumeAnswer,
     pub reader: Reader,

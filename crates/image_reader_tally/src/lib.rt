@@ -13,7 +13,7 @@ use image_spec::Judged;
 use std::num::wrapping_add_usize;
 
 // How a turn stopped: at the end of what it was to do, refused as a whole, or at a block, whose place in the turn it names.
-#[derive(Drop)]
+#[derive(Clone, Copy)]
 pub enum Stop {
     End,
     Asked,
@@ -37,7 +37,7 @@ impl Stop {
 }
 
 // What a turn did: how far the reader has come, the blocks accepted, the sum of their payload lengths, and how it stopped.
-#[derive(Drop)]
+#[derive(Clone, Copy)]
 pub struct BlocksRead {
     pub progress: Progress,
     pub accepted: usize,

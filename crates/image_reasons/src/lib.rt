@@ -5,7 +5,7 @@ ghost use Rattle.std.specs.Prelude.{◌≡◌};
 ghost use Rattle.image_reasons.specs.Reasons.{reason_number, reason_value, value_of};
 
 // Why a block was refused, with the value found.
-#[derive(Drop)]
+#[derive(Clone, Copy)]
 pub enum Reason {
     AfterLast,
     CheckWrong,
@@ -19,7 +19,7 @@ pub enum Reason {
 }
 
 // The value that a reason holds, if it holds one.
-#[derive(Drop)]
+#[derive(Clone, Copy)]
 pub enum Value {
     Held(u32),
     NoValue,
@@ -59,7 +59,7 @@ impl Reason {
     }
 }
 
-#[derive(Drop)]
+#[derive(Clone, Copy)]
 pub enum Verdict {
     Accepted,
     Refused(Reason),

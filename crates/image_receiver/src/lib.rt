@@ -14,7 +14,7 @@ use image_spec::Rounds;
 
 // The schedules of the encryption key and of the check key, and what the receiver knows about its image.
 #[repr(C)]
-#[derive(Drop)]
+#[derive(Clone, Copy)]
 pub struct Receiver {
     pub enc: KeySchedule,
     pub chk: KeySchedule,
@@ -22,14 +22,14 @@ pub struct Receiver {
 }
 
 // The answer to a start, and the receiver: zeros if it was refused.
-#[derive(Drop)]
+#[derive(Clone, Copy)]
 pub struct ReceiveStarted {
     pub answer: BeginAnswer,
     pub receiver: Receiver,
 }
 
 // The answer to a block, and the receiver after it: the one given if the block was refused.
-#[derive(Drop)]
+#[derive(Clone, Copy)]
 pub struct ReceiveDone {
     pub answer: ReceiveAnswer,
     pub receiver: Receiver,

@@ -12,7 +12,7 @@ use image_receiver_map::map_size;
 
 // The count and the release that a receiver was told, how many blocks it holds, and the sum of their payload lengths.
 #[repr(C)]
-#[derive(Drop)]
+#[derive(Clone, Copy)]
 pub struct Receipt {
     pub count: u32,
     pub release: u32,
@@ -21,7 +21,7 @@ pub struct Receipt {
 }
 
 // The answer to a block.
-#[derive(Drop)]
+#[derive(Clone, Copy)]
 pub enum ReceiveAnswer {
     Received,
     NotABlock,
@@ -32,7 +32,7 @@ pub enum ReceiveAnswer {
 }
 
 // The answer to a start, with the count if that is refused.
-#[derive(Drop)]
+#[derive(Clone, Copy)]
 pub enum BeginAnswer {
     Begun,
     BeginKey,

@@ -24,7 +24,7 @@ use image_spec::Rounds;
 use octets_block::load;
 
 // The answer to a block, and what the receiver knows after it.
-#[derive(Drop)]
+#[derive(Clone, Copy)]
 pub struct BlockReceived {
     pub answer: ReceiveAnswer,
     pub receipt: Receipt,

@@ -6,14 +6,14 @@ ghost use Rattle.std.specs.Prelude.{◌≡◌, ◌+◌, ◌≤◌, length};
 ghost use Rattle.image_view.specs.Views.{made_number, held_of, held_length, blocks_in, shown_number, part_of, offset_of, size_of, block_shown, check_shown, Within, answer_of, block_answer, check_answer};
 
 // `made` is 0, or 6 if the image was refused; the view is then empty.
-#[derive(Drop)]
+#[derive(Clone, Copy)]
 pub struct View<'a> {
     pub image: &'a [u8],
     pub made: u32,
 }
 
 // `number` is 0, or 20 if there is no such block; the part is then empty.
-#[derive(Drop)]
+#[derive(Clone, Copy)]
 pub struct Shown<'a> {
     pub part: &'a [u8],
     pub number: u32,
@@ -104,7 +104,7 @@ fn part(image: &[u8], place: usize, from: usize, size: usize) -> &[u8]
 // What a view of the image answers: the number of its refusal, how many blocks it holds, and of a place the number of its refusal
 // and where the part that is shown is in the image.
 #[repr(C)]
-#[derive(Drop)]
+#[derive(Clone, Copy)]
 pub struct ViewAnswer {
     pub made: u32,
     pub number: u32,

@@ -7,7 +7,7 @@ ghost use Rattle.image_writer_answer.specs.Answers.{write_number, write_ruled, l
 use image_limits::{count_fits, is_edition, length_fits};
 
 // The case of the call, or why it was refused.
-#[derive(Drop)]
+#[derive(Clone, Copy)]
 pub enum WriteAnswer {
     Written,
     WriteKey,
@@ -35,7 +35,7 @@ impl WriteAnswer {
 }
 
 // What a block says about itself: its number, how many blocks the image has, its release, and its edition, 1 or 2.
-#[derive(Drop)]
+#[derive(Clone, Copy)]
 pub struct Numbers {
     pub number: u32,
     pub count: u32,

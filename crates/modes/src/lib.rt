@@ -15,7 +15,7 @@ use octets_block::load;
 
 // An answer, and the chaining value handed on: the last ciphertext block, in OFB the last cipher output, for an empty input the IV.
 // As the IV of another call it lets more bytes go on from here. It is zeros in ECB, which chains nothing, and in a refused call.
-#[derive(Drop)]
+#[derive(Clone, Copy)]
 pub struct Applied {
     pub answer: ModeAnswer,
     pub next: [u8; 16],

@@ -9,7 +9,7 @@ ghost use Rattle.modes_answer.specs.Answers.{mode_number, left_over, judged};
 use aes_schedule::KeyAnswer;
 use modes_spec::Operation;
 
-#[derive(Drop)]
+#[derive(Clone, Copy)]
 pub enum ModeAnswer {
     Done,
     BadKey,

@@ -3,7 +3,7 @@
 
 
 // What a mode does: encryption or decryption in it, which in OFB are one.
-#[derive(Drop)]
+#[derive(Clone, Copy)]
 pub enum Operation {
     EcbEncrypt,
     EcbDecrypt,

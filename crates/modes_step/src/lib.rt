@@ -13,7 +13,7 @@ use modes_spec::Operation;
 use octets_block::xor;
 
 // What comes out of a piece, and what the next piece is chained to.
-#[derive(Drop)]
+#[derive(Clone, Copy)]
 pub struct Stepped {
     pub out: [u8; 16],
     pub next: [u8; 16],

@@ -20,20 +20,20 @@ use rijndael_spec::{WideOperation, Width};
 
 // An answer, and the chaining value that CBC hands on: the last ciphertext block, for an empty input the IV. As the IV of another call it
 // lets more bytes go on from here. It is zeros in ECB, which chains nothing, and in a refused call.
-#[derive(Drop)]
+#[derive(Clone, Copy)]
 pub struct Applied24 {
     pub answer: ModeAnswer,
     pub next: [u8; 24],
 }
 
-#[derive(Drop)]
+#[derive(Clone, Copy)]
 pub struct Applied32 {
     pub answer: ModeAnswer,
     pub next: [u8; 32],
 }
 
 // The same, with the chaining value in columns.
-#[derive(Drop)]
+#[derive(Clone, Copy)]
 struct Ended {
     answer: ModeAnswer,
     chain: [u32; 8],

@@ -15,7 +15,7 @@ use rijndael_schedule::{columns, invert};
 use rijndael_spec::{WideOperation, Width};
 
 // What comes out of a piece, and what the next piece is chained to, in columns.
-#[derive(Drop)]
+#[derive(Clone, Copy)]
 struct Stepped {
     out: [u32; 8],
     next: [u32; 8],

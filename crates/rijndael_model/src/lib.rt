@@ -3,7 +3,7 @@
 
 
 // The way through the rounds: encryption goes forth, decryption back.
-#[derive(Drop)]
+#[derive(Clone, Copy)]
 pub enum Way {
     Forth,
     Back,

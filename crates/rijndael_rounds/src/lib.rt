@@ -14,7 +14,7 @@ use rijndael_schedule::is_round_count;
 use rijndael_spec::Width;
 
 // How many columns there are, and how far each row but the first is shifted.
-#[derive(Drop)]
+#[derive(Clone, Copy)]
 struct Turn {
     columns: usize,
     second: usize,

@@ -3,14 +3,14 @@
 
 
 // How many columns a block has: six are 24 bytes, eight are 32.
-#[derive(Drop)]
+#[derive(Clone, Copy)]
 pub enum Width {
     Six,
     Eight,
 }
 
 // What a call over wide blocks does: ECB and CBC have a place there, the other modes have none.
-#[derive(Drop)]
+#[derive(Clone, Copy)]
 pub enum WideOperation {
     EncryptEcb,
     DecryptEcb,

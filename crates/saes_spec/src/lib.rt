@@ -3,14 +3,14 @@
 
 
 // Two nibbles: a word of the key, or a column of a state with the nibble of row 0 first.
-#[derive(Drop)]
+#[derive(Clone, Copy)]
 pub struct Word {
     pub high: u8,
     pub low: u8,
 }
 
 // Two columns; a round key is laid out like a state.
-#[derive(Drop)]
+#[derive(Clone, Copy)]
 pub struct State {
     pub left: Word,
     pub right: Word,
@@ -18,7 +18,7 @@ pub struct State {
 
 // The state after each of the three key additions, as numbers of 16 bits.
 #[repr(C)]
-#[derive(Drop)]
+#[derive(Clone, Copy)]
 pub struct States {
     pub first: u16,
     pub second: u16,

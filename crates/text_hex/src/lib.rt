@@ -14,7 +14,7 @@ use spelling::spell;
 use text_put::put;
 
 // What decoding a word of hex finds: the place after its bytes, or that it is bad or does not fit.
-#[derive(Drop)]
+#[derive(Clone, Copy)]
 pub enum Decoded {
     End(usize),
     Bad,

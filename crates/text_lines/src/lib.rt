@@ -10,14 +10,14 @@ use text_put::put;
 use text_words::find;
 
 // The line so far: its length, and whether it was too long for the memory.
-#[derive(Drop)]
+#[derive(Clone, Copy)]
 pub struct Place {
     pub len: usize,
     pub over: bool,
 }
 
 // The line after a part, or as much of it as there was; where the next line begins; and whether this one is whole.
-#[derive(Drop)]
+#[derive(Clone, Copy)]
 pub struct Gathered {
     pub place: Place,
     pub next: usize,

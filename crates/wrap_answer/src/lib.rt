@@ -12,7 +12,7 @@ use aes_schedule::KeyAnswer;
 use octets_slice::{equal, part};
 
 // The case of the call, or why it was refused.
-#[derive(Drop)]
+#[derive(Clone, Copy)]
 pub enum WrapAnswer {
     WrapDone,
     WrapKey,

@@ -1,0 +1,19 @@
+use mathlib.Core.Path.{refl, sym, ◌∙◌}
+use Prim.Native.Nat.{◌≤◌, ◌-◌}
+use lib.ListN.{get_or}
+use Rattle.octets.specs.Octets as octets
+use Rattle.octets.proofs.Fill.{Filled, filled_none, filled_more, filled_all}
+use Rattle.octets_block.proofs.Laws.{sum_tabulate}
+use native.Mathlib.Omega.{arith}
+use borrow.Author.Rules.{rules}
+use Rattle.octets_block.proofs.xor.Goals as goal
+
+pub loop-i-init : goal.loop-i-init
+loop-i-init c = (search rules, filled_none 16 _ _ refl)
+
+pub loop-i-preserved : goal.loop-i-preserved
+unfolding octets.xor
+loop-i-preserved c = (search rules, filled_more c.loop-i.invariant.1 c.loop-i-test.true _ refl)
+
+pub returns : goal.returns
+returns c = filled_all c.loop-i.invariant.1 c.loop-i-test.false ∙ sym (sum_tabulate 16 c.args.t1 c.args.t2 c.well-formed.0.1.0.1 (omega (arith, c.well-formed.1.0.1.0.1)))
