@@ -5,7 +5,7 @@ use Rattle.aes_lookup_forward.proofs.forward_at.Tie as tie
 
 left : tie.Need-returns-in_default
 unfolding forward_entries
-left c = rw (last_arm c.before.args.x c.in_default-own.rest)
+left c = rw (last_arm c.before.args.x c.in_default.in_default-own.rest)
 
 -- the arms one after the other, and what is left for `_`
 pub forward_at_spec : {M : Type 1} → statement M

@@ -5,7 +5,7 @@ use Rattle.aes_lookup_inv_sbox.proofs.inv_sub_at.Tie as tie
 
 left : tie.Need-returns-in_default
 unfolding inv_s_box_bytes
-left c = rw (last_arm c.before.args.x c.in_default-own.rest)
+left c = rw (last_arm c.before.args.x c.in_default.in_default-own.rest)
 
 -- the arms one after the other, and what is left for `_`
 pub inv_sub_at_spec : {M : Type 1} → statement M

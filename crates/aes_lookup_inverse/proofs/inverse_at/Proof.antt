@@ -5,7 +5,7 @@ use Rattle.aes_lookup_inverse.proofs.inverse_at.Tie as tie
 
 left : tie.Need-returns-in_default
 unfolding inverse_entries
-left c = rw (last_arm c.before.args.x c.in_default-own.rest)
+left c = rw (last_arm c.before.args.x c.in_default.in_default-own.rest)
 
 -- the arms one after the other, and what is left for `_`
 pub inverse_at_spec : {M : Type 1} → statement M

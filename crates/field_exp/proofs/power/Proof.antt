@@ -6,7 +6,7 @@ use Rattle.field_exp.proofs.power.Tie as tie
 
 left : tie.Need-returns-in_default
 unfolding e_table
-left c = rw (last_byte c.before.args.n (omega arith) c.in_default-own.rest)
+left c = rw (last_byte c.before.args.n (omega arith) c.in_default.in_default-own.rest)
 
 -- the arms one after the other, and what is left for `_`
 pub power_spec : {M : Type 1} → statement M

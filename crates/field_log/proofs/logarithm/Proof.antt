@@ -6,7 +6,7 @@ use Rattle.field_log.proofs.logarithm.Tie as tie
 
 left : tie.Need-returns-in_default
 unfolding l_table
-left c = rw (last_byte c.before.args.a (omega arith) c.in_default-own.rest)
+left c = rw (last_byte c.before.args.a (omega arith) c.in_default.in_default-own.rest)
 
 -- the arms one after the other, and what is left for `_`
 pub logarithm_spec : {M : Type 1} → statement M

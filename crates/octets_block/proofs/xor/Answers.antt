@@ -16,4 +16,4 @@ unfolding octets.xor
 loop-i-preserved c = (search rules, filled_more c.loop-i.invariant.1 c.loop-i-test.true _ refl)
 
 pub returns : goal.returns
-returns c = filled_all c.loop-i.invariant.1 c.loop-i-test.false ∙ sym (sum_tabulate 16 c.args.t1 c.args.t2 c.well-formed.0.1.0.1 (omega (arith, c.well-formed.1.0.1.0.1)))
+returns c = filled_all c.loop-i.invariant.1 c.loop-i-test.false ∙ sym (sum_tabulate 16 c.args.a c.args.b c.well_formed.0.1.0.1 (omega (arith, c.well_formed.1.0.1.0.1)))

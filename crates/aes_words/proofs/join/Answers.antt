@@ -1,0 +1,5 @@
+use borrow.Author.Rules.{rules}
+use Rattle.aes_words.proofs.join.Goals as goal
+
+pub returns : goal.returns
+returns c = cc

@@ -1,0 +1,18 @@
+-- So many bytes are put as pairs of digits are passed. Assumes nothing.
+use mathlib.Core.Path.{◌≡◌, refl, ap, ◌∙◌}
+use Prim.Native.Nat.{ℕ, ◌+◌, ◌*◌, ◌-◌, ◌≤◌}
+use lib.ListN.{length, set, length-set}
+use mathlib.Core.List.{List}
+use lib.Seq.{paste, paste-zero}
+use Rattle.text_hex.proofs.HexLaws.{unhex_more, bytes_at}
+use Rattle.text_hex.specs.Hex.{unhex}
+use borrow.Author.Rules.{rules}
+use native.Mathlib.Omega.{arith}
+use Rattle.text_hex.proofs.fill.Given as goal
+
+abbrev pub invariant-loop-i : goal.invariant-loop-i
+invariant-loop-i l = (l.out ≡ paste l.initial.out l.at (unhex l.s) l.i) × (length l.out ≡ length l.initial.out) × (l.i ≤ l.n)
+
+abbrev pub decreases-loop-i : goal.decreases-loop-i
+decreases-loop-i l = l.n - l.i
+
