@@ -1,0 +1,5 @@
+use borrow.Author.Rules.{rules}
+use Rattle.aes_expand.proofs.key_word.Goals as goal
+
+pub returns : goal.returns
+returns c = c.join.ensures
