@@ -54,7 +54,7 @@ check_shown s place = part_of check_at 16 s place
 
 -- a part of the lent memory itself: it begins so many bytes after the start of that memory
 abbrev pub Within : (part lent : Bor (List ℕ)) (offset : ℕ) → Type 0
-Within r s offset = (r.ptr.0 ≡ s.ptr.0) × (r.ptr.1 ≡ s.ptr.1 + offset)
+Within r s offset = (r.ref_ptr.0 ≡ s.ref_ptr.0) × (r.ref_ptr.1 ≡ s.ref_ptr.1 + offset)
 
 -- ---- the same with numbers only, of an image that a view is made of
 

@@ -1,0 +1,12 @@
+-- 20 past the last block. Assumes nothing.
+use borrow.Author.Tests.{lt-ltb, le-ltb}
+use Rattle.image_view.specs.Views.{shown_number}
+use Rattle.image_view.proofs.number_at.Goals as goal
+
+pub returns-then-place-len : goal.returns-then-place-len
+unfolding shown_number
+returns-then-place-len c = simp (lt-ltb _ _ c.if-place-len.true)
+
+pub returns-else-place-len : goal.returns-else-place-len
+unfolding shown_number
+returns-else-place-len c = simp (le-ltb _ _ c.if-place-len.false)
