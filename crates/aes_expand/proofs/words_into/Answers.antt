@@ -10,30 +10,6 @@ use Rattle.aes_expand.proofs.Laws.{next_key}
 use Rattle.aes_expand.proofs.Groups.{after_group, first_group, Grown, grown_more, grown_over, over_self, grown_self, first_of_group, later_in_group}
 use Rattle.aes_expand.proofs.words_into.Goals as goal
 
-smaller-requires-2 :
-    tie.Need-smaller-requires-2 invariant-loop decreases-loop invariant-loop3 decreases-loop3 invariant-loop2 decreases-loop2
-smaller-requires-2 c κs = search rules
-
-slice-read-first-temp :
-    tie.Need-slice-read-first-temp invariant-loop decreases-loop invariant-loop3 decreases-loop3 invariant-loop2 decreases-loop2
-slice-read-first-temp c = search rules
-
-first-temp-requires :
-    tie.Need-first-temp-requires invariant-loop decreases-loop invariant-loop3 decreases-loop3 invariant-loop2 decreases-loop2
-first-temp-requires c κs = search rules
-
-slice-write-words-2 :
-    tie.Need-slice-write-words-2 invariant-loop decreases-loop invariant-loop3 decreases-loop3 invariant-loop2 decreases-loop2
-slice-write-words-2 c = search rules
-
-later-temp-requires :
-    tie.Need-later-temp-requires invariant-loop decreases-loop invariant-loop3 decreases-loop3 invariant-loop2 decreases-loop2
-later-temp-requires c κs = search rules
-
-slice-write-words-3 :
-    tie.Need-slice-write-words-3 invariant-loop decreases-loop invariant-loop3 decreases-loop3 invariant-loop2 decreases-loop2
-slice-write-words-3 c = search rules
-
 pub loop-i-init : goal.loop-i-init
 unfolding key_expansion
 loop-i-init c = search rules
