@@ -1,9 +1,5 @@
-use mathlib.Core.Path.{◌≡◌, sym, ◌∙◌}
-use Prim.Native.Nat.{◌-◌, ◌≤◌}
-use lib.ListN.{length, drop}
-use Rattle.text_decimal.proofs.NumberLaws.{rest, number_more, number_not, number_end, number_none, number_start}
-use Rattle.text_decimal.specs.Numbers.{number_of}
-use borrow.Author.Rules.{rules}
+use mathlib.Core.Path.{sym, ◌∙◌}
+use Rattle.text_decimal.proofs.NumberLaws.{number_more, number_not, number_end, number_none, number_start}
 use native.Mathlib.Omega.{arith}
 use Rattle.text_decimal.proofs.decimal.Goals as goal
 
@@ -14,11 +10,12 @@ pub loop-i-init : goal.loop-i-init
 loop-i-init c = (number_start _ _ c.if-word-eq0.false, omega arith)
 
 pub returns-in-Not : goal.returns-in-Not
-returns-in-Not c = number_not _ _ c.loop-i-test.true _ _ (sym c.more.ensures ∙ c.enum_told-1.given.1) ∙ c.loop-i.invariant.0
+returns-in-Not c = number_not _ _ c.loop-i-test.true _ _ (sym c.in-Not.ensures) ∙ c.loop-i.invariant.0
 
 pub loop-i-preserved : goal.loop-i-preserved
-loop-i-preserved c =     let l = c in
-    let m = number_more _ _ c.loop-i-test.true _ _ _ (sym c.more.ensures ∙ c.v-1.given.1) in
+loop-i-preserved c =
+    let l = c in
+    let m = number_more _ _ c.loop-i-test.true _ _ _ (sym c.in-Is.ensures) in
     (m.0 ∙ l.loop-i.invariant.0, m.1)
 
 pub returns : goal.returns

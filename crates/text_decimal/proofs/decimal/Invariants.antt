@@ -1,11 +1,9 @@
 -- What is left to find from the digits read so far is the whole. Assumes nothing.
-use mathlib.Core.Path.{◌≡◌, sym, ◌∙◌}
+use mathlib.Core.Path.{◌≡◌}
 use Prim.Native.Nat.{◌-◌, ◌≤◌}
 use lib.ListN.{length, drop}
-use Rattle.text_decimal.proofs.NumberLaws.{rest, number_more, number_not, number_end, number_none, number_start}
+use Rattle.text_decimal.proofs.NumberLaws.{rest}
 use Rattle.text_decimal.specs.Numbers.{number_of}
-use borrow.Author.Rules.{rules}
-use native.Mathlib.Omega.{arith}
 use Rattle.text_decimal.proofs.decimal.Given as goal
 
 abbrev pub invariant-loop-i : goal.invariant-loop-i
@@ -13,4 +11,3 @@ invariant-loop-i l = (rest l.most l.value (drop l.i l.word) ≡ number_of l.word
 
 abbrev pub decreases-loop-i : goal.decreases-loop-i
 decreases-loop-i l = length l.word - l.i
-

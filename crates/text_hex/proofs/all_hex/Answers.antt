@@ -1,9 +1,5 @@
 use Rattle.text_hex.proofs.HexLaws.{all_more, all_not, all_end}
-use Rattle.text_hex.specs.Hex.{all_hex}
-use mathlib.Core.Path.{◌≡◌, refl, ◌∙◌}
-use Prim.Native.Nat.{◌-◌}
-use lib.ListN.{length, drop}
-use borrow.Author.Rules.{rules}
+use mathlib.Core.Path.{refl, ◌∙◌}
 use native.Mathlib.Omega.{arith}
 use Rattle.text_hex.proofs.all_hex.Goals as goal
 

@@ -1,6 +1,5 @@
 -- A law for each range of bytes. Assumes nothing.
 use Rattle.text_hex.proofs.HexLaws.{digit_1, digit_2, digit_3, digit_4, digit_5, digit_6, digit_7}
-use borrow.Author.Rules.{rules}
 use Rattle.text_hex.proofs.digit.Goals as goal
 
 pub returns-then-c-lt48 : goal.returns-then-c-lt48

@@ -1,13 +1,9 @@
 -- So many bytes are put as pairs of digits are passed. Assumes nothing.
-use mathlib.Core.Path.{◌≡◌, refl, ap, ◌∙◌}
-use Prim.Native.Nat.{ℕ, ◌+◌, ◌*◌, ◌-◌, ◌≤◌}
-use lib.ListN.{length, set, length-set}
-use mathlib.Core.List.{List}
-use lib.Seq.{paste, paste-zero}
-use Rattle.text_hex.proofs.HexLaws.{unhex_more, bytes_at}
+use mathlib.Core.Path.{◌≡◌}
+use Prim.Native.Nat.{◌-◌, ◌≤◌}
+use lib.ListN.{length}
+use lib.Seq.{paste}
 use Rattle.text_hex.specs.Hex.{unhex}
-use borrow.Author.Rules.{rules}
-use native.Mathlib.Omega.{arith}
 use Rattle.text_hex.proofs.fill.Given as goal
 
 abbrev pub invariant-loop-i : goal.invariant-loop-i
@@ -15,4 +11,3 @@ invariant-loop-i l = (l.out ≡ paste l.initial.out l.at (unhex l.s) l.i) × (le
 
 abbrev pub decreases-loop-i : goal.decreases-loop-i
 decreases-loop-i l = l.n - l.i
-

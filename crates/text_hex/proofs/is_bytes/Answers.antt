@@ -1,7 +1,6 @@
 -- A law for each way out. Assumes nothing.
 use Rattle.text_hex.proofs.HexLaws.{bytes_dash, bytes_none, bytes_odd, bytes_pairs}
 use mathlib.Core.Path.{sym, ◌∙◌}
-use borrow.Author.Rules.{rules}
 use Rattle.text_hex.proofs.is_bytes.Goals as goal
 
 pub returns-then-is_dash : goal.returns-then-is_dash

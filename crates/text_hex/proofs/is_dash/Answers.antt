@@ -1,6 +1,5 @@
 -- By the length, then by the byte. Assumes nothing.
 use Rattle.text_hex.proofs.HexLaws.{dash_one, dash_not}
-use borrow.Author.Rules.{rules}
 use Rattle.text_hex.proofs.is_dash.Goals as goal
 
 pub returns-then-word-eq1 : goal.returns-then-word-eq1

@@ -1,12 +1,8 @@
 -- The words of what is passed and of what is left add up to those of the line. Assumes nothing.
-use mathlib.Core.Logic.{⊎_elim}
 use mathlib.Core.Path.{◌≡◌}
 use Prim.Native.Nat.{◌+◌, ◌-◌, ◌≤◌}
 use lib.ListN.{length, drop}
-use Rattle.text_words.proofs.WordLaws.{count_space, count_other, count_end}
 use Rattle.text_words.specs.Words.{word_count}
-use borrow.Author.Rules.{rules}
-use native.Mathlib.Omega.{arith}
 use Rattle.text_words.proofs.count.Given as goal
 
 abbrev pub invariant-loop-i : goal.invariant-loop-i
@@ -14,4 +10,3 @@ invariant-loop-i l = (l.n + word_count (drop l.i l.line) ≡ 1 + word_count l.li
 
 abbrev pub decreases-loop-i : goal.decreases-loop-i
 decreases-loop-i l = length l.line - l.i
-

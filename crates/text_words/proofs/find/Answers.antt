@@ -1,9 +1,5 @@
 use Rattle.text_words.proofs.WordLaws.{end_more, end_here, end_end}
-use Rattle.text_words.specs.Words.{end_of}
-use mathlib.Core.Path.{◌≡◌, refl, ◌∙◌}
-use Prim.Native.Nat.{◌-◌}
-use lib.ListN.{length}
-use borrow.Author.Rules.{rules}
+use mathlib.Core.Path.{refl, ◌∙◌}
 use Rattle.text_words.proofs.find.Goals as goal
 
 pub loop-i-init : goal.loop-i-init

@@ -1,10 +1,8 @@
 -- The place to find from here is the place to find from the start. Assumes nothing.
-use Rattle.text_words.proofs.WordLaws.{end_more, end_here, end_end}
 use Rattle.text_words.specs.Words.{end_of}
-use mathlib.Core.Path.{◌≡◌, refl, ◌∙◌}
+use mathlib.Core.Path.{◌≡◌}
 use Prim.Native.Nat.{◌-◌}
 use lib.ListN.{length}
-use borrow.Author.Rules.{rules}
 use Rattle.text_words.proofs.find.Given as goal
 
 abbrev pub invariant-loop-i : goal.invariant-loop-i
@@ -12,4 +10,3 @@ invariant-loop-i l = end_of l.stop l.s l.i ≡ end_of l.stop l.s l.at
 
 abbrev pub decreases-loop-i : goal.decreases-loop-i
 decreases-loop-i l = length l.s - l.i
-

@@ -1,7 +1,6 @@
 -- By the test on ten. Assumes nothing.
 use Rattle.text_hex.specs.Written.{char_of}
 use borrow.Author.Tests.{lt-ltb, le-ltb}
-use borrow.Author.Rules.{rules}
 use Rattle.text_hex.proofs.spelling.char_of.Goals as goal
 
 pub returns-then-n-lt10 : goal.returns-then-n-lt10

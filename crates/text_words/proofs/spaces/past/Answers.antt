@@ -1,6 +1,5 @@
 -- Past the space, or at the end. Assumes nothing.
 use Rattle.text_words.proofs.WordLaws.{past_space, past_end}
-use borrow.Author.Rules.{rules}
 use Rattle.text_words.proofs.spaces.past.Goals as goal
 
 pub returns-then-e-line : goal.returns-then-e-line
