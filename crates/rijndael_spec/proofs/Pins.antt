@@ -1,10 +1,10 @@
 -- What request E6 (docs/REQUIREMENTS.md) and the submission say about Rijndael in a sentence, stated of the definitions. Assumes nothing.
 use mathlib.Core.Path.{◌≡◌, refl}
 use mathlib.Core.List.{[], ◌∷◌}
-use Prim.Native.Nat.{ℕ, ◌+◌}
+use Prim.Native.Nat.{◌+◌}
 use Rattle.octets.specs.Octets.{xor, tabulate}
 use Rattle.field.specs.Field.{x_times, x_power}
-use Rattle.rijndael_spec.specs.Rijndael.{shape_of, block_size, rounds_of, wide_round_count}
+use Rattle.rijndael_spec.specs.Rijndael.{shape_of, block_size, rounds_of}
 use Rattle.rijndael_spec.specs.declared.Width.TheVariants.{Six, Eight}
 
 -- the columns and the bytes of a block
