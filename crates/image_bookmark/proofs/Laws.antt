@@ -1,10 +1,10 @@
 -- The bytes of a bookmark, put together and read. Assumes nothing.
 use mathlib.Core.Path.{◌≡◌, refl, sym, ap, ap₂, ◌∙◌}
 use mathlib.Core.List.{List, [], ◌∷◌, ◌++◌, append-nil}
-use Prim.Native.Nat.{ℕ, ◌+◌, ◌-◌, ◌*◌, ◌/◌, ◌%◌, ◌≤◌, ◌<◌}
+use Prim.Native.Nat.{ℕ, ◌+◌, ◌-◌}
 use native.Mathlib.Omega.{arith}
-use lib.ListN.{length, take, drop, replicate, length-append, length-replicate}
-use lib.Seq.{paste, take-length, take-append_seam, drop-append-add}
+use lib.ListN.{length, replicate, length-append, length-replicate}
+use lib.Seq.{take-length, take-append_seam, drop-append-add}
 use Rattle.octets.specs.Words.{word_at, bytes_of}
 use Rattle.octets_slice.specs.Slices.{copied}
 use Rattle.octets_slice.proofs.Laws.{copied_fits, drop_zeros}

@@ -2,7 +2,6 @@
 use mathlib.Core.Path.{◌≡◌, refl}
 use mathlib.Core.List.{List, [], ◌∷◌}
 use Prim.Native.Nat.{ℕ}
-use lib.ListN.{replicate}
 use Rattle.octets.specs.Words.{word, bytes_of}
 use Rattle.image_progress.specs.declared.Progress.{Progress}
 use Rattle.image_bookmark.specs.Bookmark.{front_of_lem, progress_in, bytes_in}

@@ -1,15 +1,15 @@
 -- What a bookmark says is what was written into it, and the other way round. Assumes nothing.
-use mathlib.Core.Path.{◌≡◌, refl, sym, ap, ap₂, ◌∙◌}
+use mathlib.Core.Path.{◌≡◌, sym, ap, ap₂, ◌∙◌}
 use mathlib.Core.List.{List, [], ◌∷◌, ◌++◌}
 use Prim.Native.Nat.{ℕ, zero, suc, ◌+◌, ◌*◌, ◌/◌, ◌%◌, ◌≤◌, ◌<◌}
 use native.Mathlib.Omega.{arith}
 use lib.ListN.{length, get_or, take, drop, length-append, length-drop}
-use lib.Seq.{take-add, take-append-le, take-length, drop-append-le, drop-length, get_or-drop}
-use Rattle.octets.specs.Octets.{Bytes, Octets}
+use lib.Seq.{get_or-take, length-take-le, take-add, take-append-le, take-length, drop-append-le, drop-length, get_or-drop}
+use Rattle.octets.specs.Octets.{tabulate, Bytes, Octets}
+use Rattle.octets.proofs.Fill.{is_tabulate}
 use Rattle.octets.specs.Words.{word, word_at, bytes_of}
 use Rattle.octets.proofs.Words.{byte_lt, byte0_word, byte1_word, byte2_word, byte3_word, word_bytes}
 use Rattle.octets.proofs.Blocks.{append_bytes, take_octets, drop_bytes}
-use Rattle.octets_block.proofs.Laws.{part_tabulate}
 use Rattle.image_progress.specs.declared.Progress.{Progress}
 use Rattle.image_bookmark.specs.Bookmark.{long_bytes, long_at, front_of_lem, progress_in, bytes_in}
 
@@ -81,6 +81,12 @@ front_octets s n o = record {
 }
 
 -- ---- read, then written
+
+-- a part is what stands at its places
+part_tabulate : (n : ℕ) (s : List ℕ) (at : ℕ) → at + n ≤ length s → take n (drop at s) ≡ tabulate n (λ k. get_or s (at + k) 0)
+part_tabulate n s at h =
+    is_tabulate n (λ k. get_or s (at + k) 0) (take n (drop at s)) (length-take-le n (drop at s) (omega (arith, length-drop at s)))
+    (λ k l. get_or-take n (drop at s) k 0 l ∙ get_or-drop at s k 0)
 
 bytes_at : (a b c d : ℕ) → a < 256 → b < 256 → c < 256 → d < 256 → bytes_of (word a b c d ∷ []) ≡ a ∷ b ∷ c ∷ d ∷ []
 unfolding bytes_of

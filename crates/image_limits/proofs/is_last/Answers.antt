@@ -4,7 +4,6 @@ use lib.Dec.{eqb}
 use Prim.Native.Nat.{ℕ, ◌+◌, ◌-◌}
 use mathlib.Core.Bool.{Bool, true, false}
 use native.Mathlib.Omega.{arith}
-use borrow.Author.Rules.{rules}
 use Rattle.image_limits.proofs.is_last.Goals as goal
 
 pub returns-then-number-count : goal.returns-then-number-count

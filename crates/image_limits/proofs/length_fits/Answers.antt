@@ -1,6 +1,5 @@
 use Rattle.image_limits.specs.Fits.{length_fits}
 use mathlib.Core.Path.{sym, ◌∙◌}
-use borrow.Author.Rules.{rules}
 use Rattle.image_limits.proofs.length_fits.Goals as goal
 
 pub returns-then-is_last : goal.returns-then-is_last

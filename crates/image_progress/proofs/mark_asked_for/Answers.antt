@@ -2,7 +2,6 @@ use Rattle.image_limits.specs.Marks.{mark_of}
 use Rattle.image_progress.specs.Progress.{mark_for}
 use borrow.Author.Tests.{lt-ltb, le-ltb}
 use mathlib.Core.Path.{ap, ◌∙◌}
-use borrow.Author.Rules.{rules}
 use Rattle.image_progress.proofs.mark_asked_for.Goals as goal
 
 pub returns-then-progress-gt0 : goal.returns-then-progress-gt0
