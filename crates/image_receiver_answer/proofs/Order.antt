@@ -1,8 +1,7 @@
 -- Tests asked in order. Assumes nothing.
 use mathlib.Core.Path.{◌≡◌, refl, sym, ap, ◌∙◌}
-use mathlib.Core.Bool.{Bool, true, false, not, true≢false, cond}
+use mathlib.Core.Bool.{Bool, true, false, true≢false, cond}
 use mathlib.Core.List.{List, [], ◌∷◌, ◌++◌}
-use Rattle.image_reasons.specs.declared.Reason.{Reason}
 use types.Run.{OneOf, miss as not_one}
 use denote.Enum.Declared.{tag_of}
 use borrow.Author.Tests.{ltb-true, not-false}

@@ -1,11 +1,11 @@
 -- The numbers and values of a receiver's answers, as docs/REFUSALS.md has them, and what room and 20 ask. Assumes nothing.
-use mathlib.Core.Path.{◌≡◌, refl, sym, ap}
-use mathlib.Core.Bool.{true, ◌&&◌, not}
-use mathlib.Core.List.{List, [], ◌∷◌}
+use mathlib.Core.Path.{◌≡◌, refl}
+use mathlib.Core.Bool.{true, ◌&&◌}
+use mathlib.Core.List.{[], ◌∷◌}
 use Prim.Native.Nat.{ℕ, ◌+◌, ◌*◌, ◌/◌}
 use native.Mathlib.Omega.{arith}
 use borrow.Author.Tests.{eq-eqb, le-ltb}
-use lib.Dec.{eqb, ltb, leb}
+use lib.Dec.{leb}
 use Rattle.image_layout.specs.declared.Head.{Head}
 use Rattle.image_limits.specs.Fits.{count_fits_of}
 use Rattle.image_reasons.specs.Reasons.{reason_number, reason_value}
