@@ -1,0 +1,106 @@
+// What a program reads and writes, and what it tells on standard error where that fails.
+#![tactic(auto)]
+
+ghost use Rattle.std.specs.Prelude.{◌≡◌, ◌≤◌, ◌<◌, IfOk, IsTrue, length, take};
+ghost use Rattle.std.specs.Io.{ReadsAtMost};
+ghost use Rattle.std.specs.Io.KnownBytes.{Appends, Consumes, IsAtEnd, ReadConsumes};
+
+use std::env::{Env, FillError};
+use std::fs::OpenOptions;
+use std::io::{self, Error, ErrorKind, Read, Write};
+use std::rt::Files;
+
+// Reads once: how many bytes came to the front of `part`, 0 at the end of the input. An error has been told.
+pub fn read_part<R: Read, E: Eprint + Alloc>(
+    rt: &E,
+    input: &mut R,
+    part: &mut [u8],
+    failed: &str,
+) -> io::Result<usize>
+    ensures bound { ReadsAtMost result part.new }
+    ensures bytes { ReadConsumes (R.remaining input.old) (R.remaining input.new) result part.new }
+{
+    let got = input.read(part);
+    if let Err(e) = &got {
+        tell(rt, failed, e);
+    }
+    got
+}
+
+// Reads until `part` is full or the input ends: how many bytes came to its front. An error has been told.
+pub fn read_full<R: Read, E: Eprint + Alloc>(
+    rt: &E,
+    input: &mut R,
+    part: &mut [u8],
+    failed: &str,
+) -> io::Result<usize>
+    ensures bound { IfOk result (λ n. n ≤ length part.new) }
+    ensures bytes { IfOk result (λ n. Consumes (R.remaining input.old) (R.remaining input.new) (take n part.new)) }
+    ensures end { IfOk result (λ n. n < length part.new → IsAtEnd (R.remaining input.new)) }
+{
+    let mut n = 0;
+    while n < part.len() {
+        let got = read_part(rt, input, &mut part[n..], failed)?;
+        if got == 0 {
+            break;
+        }
+        n += got;
+    }
+    Ok(n)
+}
+
+// Whether all of a text was written; where it was not, that has been told. Whoever closes the pipe that is written to, as `head` does,
+// knows that it is cut, and is told nothing.
+pub fn is_written<W: Write, E: Eprint + Alloc>(
+    rt: &E,
+    output: &mut W,
+    text: &[u8],
+    failed: &str,
+) -> bool
+    ensures { IsTrue result → Appends (W.contents output.old) (W.contents output.new) text.now }
+{
+    match output.write_all(text) {
+        Ok(()) => true,
+        Err(e) => {
+            if e.kind() != ErrorKind::BrokenPipe {
+                tell(rt, failed, &e);
+            }
+            false
+        }
+    }
+}
+
+// Tells on standard error what failed, and why, in one line.
+pub fn tell<E: Eprint + Alloc>(rt: &E, failed: &str, why: &Error) {
+    let _ = match format!(in rt.alloc(); "{why}") {
+        Ok(text) => {
+            let words = without_number(text.as_str());
+            eprintln!(rt; "{failed}: {words}")
+        }
+        Err(_) => eprintln!(rt; "{failed}: {why}"),
+    };
+}
+
+// The system's words for an error, without the number that std puts behind them.
+fn without_number(text: &str) -> &str {
+    match text.split_once(" (os error ") {
+        Some((words, _)) => words,
+        None => text,
+    }
+}
+
+// Whether the program was started with an argument of this number; argument 0 is its own name.
+pub fn is_given<R: Env>(rt: &R, i: usize) -> bool {
+    let mut room = [0u8; 1];
+    match rt.arg(i, &mut room) {
+        Ok(_) | Err(FillError::TooLong) => true,
+        Err(FillError::NotPresent) => false,
+    }
+}
+
+// Puts a word into descriptor 3, which `dock` lends a program for its word that all went well. Nothing happens where it lends none.
+pub fn report<R: Files>(rt: &R, word: &[u8]) {
+    if let Ok(mut lent) = OpenOptions::new().append(true).open(rt, "/proc/self/fd/3") {
+        let _ = lent.write_all(word);
+    }
+}
