@@ -1,7 +1,7 @@
 // The library's calls for C and C++: AES, its modes, the check (CMAC), release images, receivers of blocks in any order, views of stored
 // images, the key wrap, messages sealed in CCM, and the bench model for apprentices.
 //
-// Building and linking. `rt staticlib dock` proves the library and writes target/staticlib/libdock.a, for x86-64 Linux. The archive has
+// Building and linking. `tools/proved dock_c` proves the library and writes target/staticlib/libdock.a, for x86-64 Linux. The archive has
 // every call below and needs only memcpy and memset. It has no heap, no files and no writable memory of its own, so calls may run in
 // several threads at once.
 //

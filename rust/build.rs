@@ -1,4 +1,4 @@
-//! Says where the archive of `rt staticlib dock` is, in `DOCK_LIBS`, in this repository's target/staticlib or where pkg-config knows
+//! Says where the archive of `tools/proved dock_c` is, in `DOCK_LIBS`, in this repository's target/staticlib or where pkg-config knows
 //! it, and whether the compiler has `core::error::Error`.
 
 use std::env;
@@ -31,7 +31,7 @@ fn main() {
         println!("cargo:warning=libdock.a is for x86-64 Linux. A build for {target} can be checked, and cannot be linked.");
     } else if !archive.exists() {
         println!(
-            "cargo:warning=there is no {}: run rt staticlib dock, or set DOCK_LIBS or PKG_CONFIG_PATH",
+            "cargo:warning=there is no {}: run tools/proved dock_c, or set DOCK_LIBS or PKG_CONFIG_PATH",
             archive.display()
         );
     }

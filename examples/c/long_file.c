@@ -2,7 +2,7 @@
 // the result is the same as that of one call over the whole file. OFB takes a file of any size, CBC one of a multiple of 16 bytes.
 //
 // Build, in the repository:
-//     rt staticlib dock
+//     tools/proved dock_c
 //     cc -std=c11 -O2 -Wall -Wextra -Iinclude examples/c/long_file.c target/staticlib/libdock.a -o long_file
 // Run. KEY is a file of 16, 24 or 32 bytes, IV one of 16 bytes; never use an IV twice under one key:
 //     ./long_file cbc-encrypt KEY IV FROM TO

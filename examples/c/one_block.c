@@ -1,5 +1,5 @@
 // One block of FIPS 197's example, encrypted. Build and run, in the repository:
-//     rt staticlib dock
+//     tools/proved dock_c
 //     cc -Iinclude examples/c/one_block.c target/staticlib/libdock.a -o one_block && ./one_block
 #include <stdio.h>
 

@@ -1,7 +1,7 @@
 // Seals a file into a release image, and reads an image back into a file. It checks every answer of the library and says it in words.
 //
 // Build, in the repository:
-//     rt staticlib dock
+//     tools/proved dock_c
 //     cc -std=c11 -O2 -Wall -Wextra -Iinclude examples/c/seal_and_read.c target/staticlib/libdock.a -o seal_and_read
 // Run. KEYS is a file of 32 bytes, an encryption key and a check key of 16 bytes each; use samples/keys for trials:
 //     ./seal_and_read seal KEYS RELEASE EDITION FILE IMAGE

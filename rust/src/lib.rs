@@ -29,7 +29,7 @@
 //!
 //! # Building
 //!
-//! The package needs only `core`. The archive that it links is for x86-64 Linux: `rt staticlib dock` writes it to target/staticlib. The
+//! The package needs only `core`. The archive that it links is for x86-64 Linux: `tools/proved dock_c` writes it to target/staticlib. The
 //! build script looks for it there, or in the folder named by `DOCK_LIBS`. For other targets the package can only be checked.
 //! [`Refusal`] implements `core::error::Error` if the compiler has it, from Rust 1.81 on.
 //!

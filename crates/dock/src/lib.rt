@@ -1,5 +1,5 @@
-// What C links: the calls on slices and numbers, with the refusals' numbers in place of enums, and structs by value but for the
-// record of a running check, which is lent to be fed.
+// Every public call on slices and numbers, with the refusals' numbers in place of enums, and structs by value but for the record of a
+// running check, which is lent to be fed. C links them from dock_c, which exports each under its name.
 #![tactic(auto)]
 
 ghost use Rattle.std.specs.Prelude.{◌≡◌};
@@ -129,15 +129,13 @@ pub struct ResumeAnswer {
     pub reader: Reader,
 }
 
-#[unsafe(no_mangle)]
-pub extern "C" fn dock_product(a: u8, b: u8) -> u8
+pub fn dock_product(a: u8, b: u8) -> u8
     ensures { result ≡ a • b }
 {
     field::product(a, b)
 }
 
-#[unsafe(no_mangle)]
-pub extern "C" fn dock_schedule(key: &[u8]) -> ScheduleAnswer
+pub fn dock_schedule(key: &[u8]) -> ScheduleAnswer
     ensures { result ≡ schedule_answer (schedule_of s_box key.now) }
 {
     let made = KeySchedule::new(key);
@@ -151,16 +149,14 @@ pub extern "C" fn dock_schedule(key: &[u8]) -> ScheduleAnswer
     }
 }
 
-#[unsafe(no_mangle)]
-pub extern "C" fn dock_encrypt(key: &[u8], block: Block) -> BlockAnswer
+pub fn dock_encrypt(key: &[u8], block: Block) -> BlockAnswer
     ensures { result ≡ block_answer (encrypt_under key.now block.bytes) }
 {
     let bytes = block.bytes;
     block_answer(aes::encrypt(key, bytes))
 }
 
-#[unsafe(no_mangle)]
-pub extern "C" fn dock_decrypt(key: &[u8], block: Block) -> BlockAnswer
+pub fn dock_decrypt(key: &[u8], block: Block) -> BlockAnswer
     ensures { result ≡ block_answer (decrypt_under key.now block.bytes) }
 {
     let bytes = block.bytes;
@@ -168,84 +164,56 @@ pub extern "C" fn dock_decrypt(key: &[u8], block: Block) -> BlockAnswer
 }
 
 // The modes: the IV is empty in ECB and 16 bytes in the others. ECB has no chaining value to hand on.
-#[unsafe(no_mangle)]
-pub extern "C" fn dock_ecb_encrypt(key: &[u8], iv: &[u8], input: &[u8], output: &mut [u8]) -> u32
+pub fn dock_ecb_encrypt(key: &[u8], iv: &[u8], input: &[u8], output: &mut [u8]) -> u32
     ensures answer { result ≡ mode_number (mode_answer EcbEncrypt key.now iv.now input.now output.old) }
     ensures written { output.new ≡ after_mode EcbEncrypt key.now iv.now input.now output.old }
 {
     run_mode(Operation::EcbEncrypt, key, iv, input, output)
 }
 
-#[unsafe(no_mangle)]
-pub extern "C" fn dock_ecb_decrypt(key: &[u8], iv: &[u8], input: &[u8], output: &mut [u8]) -> u32
+pub fn dock_ecb_decrypt(key: &[u8], iv: &[u8], input: &[u8], output: &mut [u8]) -> u32
     ensures answer { result ≡ mode_number (mode_answer EcbDecrypt key.now iv.now input.now output.old) }
     ensures written { output.new ≡ after_mode EcbDecrypt key.now iv.now input.now output.old }
 {
     run_mode(Operation::EcbDecrypt, key, iv, input, output)
 }
 
-#[unsafe(no_mangle)]
-pub extern "C" fn dock_cbc_encrypt(
-    key: &[u8],
-    iv: &[u8],
-    input: &[u8],
-    output: &mut [u8],
-) -> ChainAnswer
+pub fn dock_cbc_encrypt(key: &[u8], iv: &[u8], input: &[u8], output: &mut [u8]) -> ChainAnswer
     ensures answer { result ≡ chain_answer (mode_applied CbcEncrypt key.now iv.now input.now output.old) }
     ensures written { output.new ≡ after_mode CbcEncrypt key.now iv.now input.now output.old }
 {
     run_chained_mode(Operation::CbcEncrypt, key, iv, input, output)
 }
 
-#[unsafe(no_mangle)]
-pub extern "C" fn dock_cbc_decrypt(
-    key: &[u8],
-    iv: &[u8],
-    input: &[u8],
-    output: &mut [u8],
-) -> ChainAnswer
+pub fn dock_cbc_decrypt(key: &[u8], iv: &[u8], input: &[u8], output: &mut [u8]) -> ChainAnswer
     ensures answer { result ≡ chain_answer (mode_applied CbcDecrypt key.now iv.now input.now output.old) }
     ensures written { output.new ≡ after_mode CbcDecrypt key.now iv.now input.now output.old }
 {
     run_chained_mode(Operation::CbcDecrypt, key, iv, input, output)
 }
 
-#[unsafe(no_mangle)]
-pub extern "C" fn dock_cfb_encrypt(
-    key: &[u8],
-    iv: &[u8],
-    input: &[u8],
-    output: &mut [u8],
-) -> ChainAnswer
+pub fn dock_cfb_encrypt(key: &[u8], iv: &[u8], input: &[u8], output: &mut [u8]) -> ChainAnswer
     ensures answer { result ≡ chain_answer (mode_applied CfbEncrypt key.now iv.now input.now output.old) }
     ensures written { output.new ≡ after_mode CfbEncrypt key.now iv.now input.now output.old }
 {
     run_chained_mode(Operation::CfbEncrypt, key, iv, input, output)
 }
 
-#[unsafe(no_mangle)]
-pub extern "C" fn dock_cfb_decrypt(
-    key: &[u8],
-    iv: &[u8],
-    input: &[u8],
-    output: &mut [u8],
-) -> ChainAnswer
+pub fn dock_cfb_decrypt(key: &[u8], iv: &[u8], input: &[u8], output: &mut [u8]) -> ChainAnswer
     ensures answer { result ≡ chain_answer (mode_applied CfbDecrypt key.now iv.now input.now output.old) }
     ensures written { output.new ≡ after_mode CfbDecrypt key.now iv.now input.now output.old }
 {
     run_chained_mode(Operation::CfbDecrypt, key, iv, input, output)
 }
 
-#[unsafe(no_mangle)]
-pub extern "C" fn dock_ofb(key: &[u8], iv: &[u8], input: &[u8], output: &mut [u8]) -> ChainAnswer
+pub fn dock_ofb(key: &[u8], iv: &[u8], input: &[u8], output: &mut [u8]) -> ChainAnswer
     ensures answer { result ≡ chain_answer (mode_applied Ofb key.now iv.now input.now output.old) }
     ensures written { output.new ≡ after_mode Ofb key.now iv.now input.now output.old }
 {
     run_chained_mode(Operation::Ofb, key, iv, input, output)
 }
 
-#[unsafe(no_mangle)]
-pub extern "C" fn dock_check(key: &[u8], message: &[u8]) -> CheckAnswer
+pub fn dock_check(key: &[u8], message: &[u8]) -> CheckAnswer
     ensures { result ≡ check_answer (check_of key.now message.now) }
 {
     let c = cmac::check(key, message);
@@ -257,8 +225,7 @@ pub extern "C" fn dock_check(key: &[u8], message: &[u8]) -> CheckAnswer
     }
 }
 
-#[unsafe(no_mangle)]
-pub extern "C" fn dock_check_start(key: &[u8]) -> StartAnswer
+pub fn dock_check_start(key: &[u8]) -> StartAnswer
     ensures { result ≡ start_answer (start_of key.now) }
 {
     let s = cmac::start(key);
@@ -271,23 +238,20 @@ pub extern "C" fn dock_check_start(key: &[u8]) -> StartAnswer
 }
 
 // On the spot: the record that is lent has taken the part in.
-#[unsafe(no_mangle)]
-pub extern "C" fn dock_check_feed(record: &mut Record, part: &[u8])
+pub fn dock_check_feed(record: &mut Record, part: &[u8])
     ensures { «record».new ≡ fed_with «record».old part.now }
 {
     *record = cmac::fed_with(*record, part);
 }
 
-#[unsafe(no_mangle)]
-pub extern "C" fn dock_check_close(record: Record) -> CheckAnswer
+pub fn dock_check_close(record: Record) -> CheckAnswer
     ensures { result ≡ close_answer (close_of «record») }
 {
     let check = cmac::close(record);
     CheckAnswer { number: 0, check }
 }
 
-#[unsafe(no_mangle)]
-pub extern "C" fn dock_write(
+pub fn dock_write(
     ekey: &[u8],
     ckey: &[u8],
     number: u32,
@@ -312,8 +276,7 @@ pub extern "C" fn dock_write(
     answer.number()
 }
 
-#[unsafe(no_mangle)]
-pub extern "C" fn dock_read_start(ekey: &[u8], ckey: &[u8]) -> ReadStartAnswer
+pub fn dock_read_start(ekey: &[u8], ckey: &[u8]) -> ReadStartAnswer
     ensures { result ≡ read_start_answer (readers.start_of ekey.now ckey.now) }
 {
     let s = image_reader::read_start(ekey, ckey);
@@ -325,13 +288,7 @@ pub extern "C" fn dock_read_start(ekey: &[u8], ckey: &[u8]) -> ReadStartAnswer
     }
 }
 
-#[unsafe(no_mangle)]
-pub extern "C" fn dock_read_turn(
-    reader: Reader,
-    blocks: &[u8],
-    asked: usize,
-    output: &mut [u8],
-) -> TurnAnswer
+pub fn dock_read_turn(reader: Reader, blocks: &[u8], asked: usize, output: &mut [u8]) -> TurnAnswer
     ensures answer { result ≡ turn_answer (turn_of reader blocks.now asked output.old).0 }
     ensures written { output.new ≡ (turn_of reader blocks.now asked output.old).1 }
 {
@@ -339,16 +296,14 @@ pub extern "C" fn dock_read_turn(
     turn_answer(t)
 }
 
-#[unsafe(no_mangle)]
-pub extern "C" fn dock_read_complete(reader: Reader) -> u32
+pub fn dock_read_complete(reader: Reader) -> u32
     ensures { result ≡ completion_number (readers.completion_of reader) }
 {
     let answer = image_reader::read_complete(reader);
     answer.number()
 }
 
-#[unsafe(no_mangle)]
-pub extern "C" fn dock_read_save(reader: Reader, bytes: u64) -> Bookmark
+pub fn dock_read_save(reader: Reader, bytes: u64) -> Bookmark
     ensures { result.bytes ≡ save_of reader bytes }
 {
     Bookmark {
@@ -356,8 +311,7 @@ pub extern "C" fn dock_read_save(reader: Reader, bytes: u64) -> Bookmark
     }
 }
 
-#[unsafe(no_mangle)]
-pub extern "C" fn dock_read_resume(ekey: &[u8], ckey: &[u8], bookmark: Bookmark) -> ResumeAnswer
+pub fn dock_read_resume(ekey: &[u8], ckey: &[u8], bookmark: Bookmark) -> ResumeAnswer
     ensures { result ≡ resume_answer (resume_of ekey.now ckey.now bookmark.bytes) }
 {
     let bytes = bookmark.bytes;
@@ -371,8 +325,7 @@ pub extern "C" fn dock_read_resume(ekey: &[u8], ckey: &[u8], bookmark: Bookmark)
     }
 }
 
-#[unsafe(no_mangle)]
-pub extern "C" fn dock_receive_start(
+pub fn dock_receive_start(
     ekey: &[u8],
     ckey: &[u8],
     count: u32,
@@ -387,8 +340,7 @@ pub extern "C" fn dock_receive_start(
     start_told(s)
 }
 
-#[unsafe(no_mangle)]
-pub extern "C" fn dock_receive(
+pub fn dock_receive(
     receiver: Receiver,
     block: &[u8],
     store: &mut [u8],
@@ -400,8 +352,7 @@ pub extern "C" fn dock_receive(
     done_told(d)
 }
 
-#[unsafe(no_mangle)]
-pub extern "C" fn dock_receive_complete(receiver: Receiver) -> u32
+pub fn dock_receive_complete(receiver: Receiver) -> u32
     ensures { result ≡ completion_number (receivers.all_held receiver) }
 {
     let answer = image_receiver::receive_complete(receiver);
@@ -409,22 +360,19 @@ pub extern "C" fn dock_receive_complete(receiver: Receiver) -> u32
 }
 
 // Only numbers: the image stays with the caller, at the address that the answer counts from.
-#[unsafe(no_mangle)]
-pub extern "C" fn dock_view_block(len: usize, place: usize) -> ViewAnswer
+pub fn dock_view_block(len: usize, place: usize) -> ViewAnswer
     ensures { result ≡ views.block_answer len place }
 {
     image_view::block_answer(len, place)
 }
 
-#[unsafe(no_mangle)]
-pub extern "C" fn dock_view_check(len: usize, place: usize) -> ViewAnswer
+pub fn dock_view_check(len: usize, place: usize) -> ViewAnswer
     ensures { result ≡ views.check_answer len place }
 {
     image_view::check_answer(len, place)
 }
 
-#[unsafe(no_mangle)]
-pub extern "C" fn dock_wrap(key: &[u8], data: &[u8], output: &mut [u8]) -> u32
+pub fn dock_wrap(key: &[u8], data: &[u8], output: &mut [u8]) -> u32
     ensures answer { result ≡ wrap_number (wrap_answer key.now «data».now output.old) }
     ensures written { output.new ≡ wrap_output (wrap_answer key.now «data».now output.old) key.now «data».now output.old }
 {
@@ -432,8 +380,7 @@ pub extern "C" fn dock_wrap(key: &[u8], data: &[u8], output: &mut [u8]) -> u32
     answer.number()
 }
 
-#[unsafe(no_mangle)]
-pub extern "C" fn dock_unwrap(key: &[u8], data: &[u8], output: &mut [u8]) -> u32
+pub fn dock_unwrap(key: &[u8], data: &[u8], output: &mut [u8]) -> u32
     ensures answer { result ≡ wrap_number (unwrap_answer key.now «data».now output.old) }
     ensures written { output.new ≡ unwrap_output (unwrap_answer key.now «data».now output.old) key.now «data».now output.old }
 {
@@ -442,28 +389,19 @@ pub extern "C" fn dock_unwrap(key: &[u8], data: &[u8], output: &mut [u8]) -> u32
 }
 
 // The bench model for apprentices refuses nothing, so its answer has no number.
-#[unsafe(no_mangle)]
-pub extern "C" fn dock_saes_encrypt(key: u16, block: u16) -> States
+pub fn dock_saes_encrypt(key: u16, block: u16) -> States
     ensures { result ≡ encrypted key block }
 {
     saes::encrypt(key, block)
 }
 
-#[unsafe(no_mangle)]
-pub extern "C" fn dock_saes_decrypt(key: u16, block: u16) -> States
+pub fn dock_saes_decrypt(key: u16, block: u16) -> States
     ensures { result ≡ decrypted key block }
 {
     saes::decrypt(key, block)
 }
 
-#[unsafe(no_mangle)]
-pub extern "C" fn dock_ccm_seal(
-    key: &[u8],
-    nonce: &[u8],
-    ad: &[u8],
-    message: &[u8],
-    output: &mut [u8],
-) -> u32
+pub fn dock_ccm_seal(key: &[u8], nonce: &[u8], ad: &[u8], message: &[u8], output: &mut [u8]) -> u32
     ensures answer { result ≡ ccm_number (seal_answer key.now nonce.now ad.now message.now output.old) }
     ensures written { output.new ≡ seal_output (seal_answer key.now nonce.now ad.now message.now output.old) key.now nonce.now ad.now message.now output.old }
 {
@@ -471,14 +409,7 @@ pub extern "C" fn dock_ccm_seal(
     answer.number()
 }
 
-#[unsafe(no_mangle)]
-pub extern "C" fn dock_ccm_open(
-    key: &[u8],
-    nonce: &[u8],
-    ad: &[u8],
-    sealed: &[u8],
-    output: &mut [u8],
-) -> u32
+pub fn dock_ccm_open(key: &[u8], nonce: &[u8], ad: &[u8], sealed: &[u8], output: &mut [u8]) -> u32
     ensures answer { result ≡ ccm_number (open_answer key.now nonce.now ad.now sealed.now output.old) }
     ensures written { output.new ≡ open_output (open_answer key.now nonce.now ad.now sealed.now output.old) key.now nonce.now ad.now sealed.now output.old }
 {
@@ -487,34 +418,21 @@ pub extern "C" fn dock_ccm_open(
 }
 
 // Rijndael with blocks of 24 bytes: the IV is empty in ECB and 24 bytes in CBC.
-#[unsafe(no_mangle)]
-pub extern "C" fn dock_wide24_ecb_encrypt(
-    key: &[u8],
-    iv: &[u8],
-    input: &[u8],
-    output: &mut [u8],
-) -> u32
+pub fn dock_wide24_ecb_encrypt(key: &[u8], iv: &[u8], input: &[u8], output: &mut [u8]) -> u32
     ensures answer { result ≡ mode_number (wide_answer Six EncryptEcb key.now iv.now input.now output.old) }
     ensures written { output.new ≡ after_wide Six EncryptEcb key.now iv.now input.now output.old }
 {
     run_wide_24(WideOperation::EncryptEcb, key, iv, input, output)
 }
 
-#[unsafe(no_mangle)]
-pub extern "C" fn dock_wide24_ecb_decrypt(
-    key: &[u8],
-    iv: &[u8],
-    input: &[u8],
-    output: &mut [u8],
-) -> u32
+pub fn dock_wide24_ecb_decrypt(key: &[u8], iv: &[u8], input: &[u8], output: &mut [u8]) -> u32
     ensures answer { result ≡ mode_number (wide_answer Six DecryptEcb key.now iv.now input.now output.old) }
     ensures written { output.new ≡ after_wide Six DecryptEcb key.now iv.now input.now output.old }
 {
     run_wide_24(WideOperation::DecryptEcb, key, iv, input, output)
 }
 
-#[unsafe(no_mangle)]
-pub extern "C" fn dock_wide24_cbc_encrypt(
+pub fn dock_wide24_cbc_encrypt(
     key: &[u8],
     iv: &[u8],
     input: &[u8],
@@ -526,8 +444,7 @@ pub extern "C" fn dock_wide24_cbc_encrypt(
     run_chained_24(WideOperation::EncryptCbc, key, iv, input, output)
 }
 
-#[unsafe(no_mangle)]
-pub extern "C" fn dock_wide24_cbc_decrypt(
+pub fn dock_wide24_cbc_decrypt(
     key: &[u8],
     iv: &[u8],
     input: &[u8],
@@ -540,34 +457,21 @@ pub extern "C" fn dock_wide24_cbc_decrypt(
 }
 
 // Rijndael with blocks of 32 bytes: the IV is empty in ECB and 32 bytes in CBC.
-#[unsafe(no_mangle)]
-pub extern "C" fn dock_wide32_ecb_encrypt(
-    key: &[u8],
-    iv: &[u8],
-    input: &[u8],
-    output: &mut [u8],
-) -> u32
+pub fn dock_wide32_ecb_encrypt(key: &[u8], iv: &[u8], input: &[u8], output: &mut [u8]) -> u32
     ensures answer { result ≡ mode_number (wide_answer Eight EncryptEcb key.now iv.now input.now output.old) }
     ensures written { output.new ≡ after_wide Eight EncryptEcb key.now iv.now input.now output.old }
 {
     run_wide_32(WideOperation::EncryptEcb, key, iv, input, output)
 }
 
-#[unsafe(no_mangle)]
-pub extern "C" fn dock_wide32_ecb_decrypt(
-    key: &[u8],
-    iv: &[u8],
-    input: &[u8],
-    output: &mut [u8],
-) -> u32
+pub fn dock_wide32_ecb_decrypt(key: &[u8], iv: &[u8], input: &[u8], output: &mut [u8]) -> u32
     ensures answer { result ≡ mode_number (wide_answer Eight DecryptEcb key.now iv.now input.now output.old) }
     ensures written { output.new ≡ after_wide Eight DecryptEcb key.now iv.now input.now output.old }
 {
     run_wide_32(WideOperation::DecryptEcb, key, iv, input, output)
 }
 
-#[unsafe(no_mangle)]
-pub extern "C" fn dock_wide32_cbc_encrypt(
+pub fn dock_wide32_cbc_encrypt(
     key: &[u8],
     iv: &[u8],
     input: &[u8],
@@ -579,8 +483,7 @@ pub extern "C" fn dock_wide32_cbc_encrypt(
     run_chained_32(WideOperation::EncryptCbc, key, iv, input, output)
 }
 
-#[unsafe(no_mangle)]
-pub extern "C" fn dock_wide32_cbc_decrypt(
+pub fn dock_wide32_cbc_decrypt(
     key: &[u8],
     iv: &[u8],
     input: &[u8],

@@ -2,7 +2,7 @@
 // and goes on when it is started again. What is installed is at every moment the old release or the new one.
 //
 // Build, in the repository:
-//     rt staticlib dock
+//     tools/proved dock_c
 //     cc -std=c11 -O2 -Wall -Wextra -Iinclude examples/c/cabinet/*.c target/staticlib/libdock.a -o cabinet
 // Run; examples/c/depot.c is the other side, and `./dock radio` shows both:
 //     ./cabinet KEYS FOLDER RELEASE EDITION BLOCKS SOCKET DEPOT WAIT
