@@ -1,0 +1,19 @@
+use mathlib.Core.Path.{◌≡◌, refl, sym, ◌∙◌}
+use Prim.Native.Nat.{◌≤◌, ◌+◌, ◌*◌, ◌/◌, ◌-◌}
+use native.Mathlib.Nat.{sub-zero}
+use native.Mathlib.Omega.{arith}
+use borrow.Author.Tests.{le-leb}
+use lib.ListN.{length, drop}
+use Rattle.cmac_spec.specs.Cmac as spec
+use Rattle.aes_spec.specs.Cipher.{standard}
+use Rattle.cmac_spec.proofs.Chain.{chained_turn, chained_end}
+use borrow.Author.Rules.{rules}
+use Rattle.cmac_chain.proofs.chained.Given as goal
+
+abbrev pub invariant-loop-i : goal.invariant-loop-i
+invariant-loop-i l =     (l.i ≤ l.i-end) × (l.i-end ≡ length l.part / 16) × (spec.chained (standard l.words l.rounds) l.value (l.i-end - l.i) (drop (l.i * 16) l.part) ≡ spec.chained (standard l.words l.rounds) l.initial.value l.i-end l.part)
+
+-- MEASURES
+-- abbrev pub decreases-loop-i : goal.decreases-loop-i
+-- decreases-loop-i l = l.i-end - l.i
+-- 
