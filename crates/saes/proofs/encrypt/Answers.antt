@@ -1,4 +1,3 @@
-use borrow.Author.Rules.{rules}
 use Rattle.saes.proofs.encrypt.Goals as goal
 
 pub returns : goal.returns

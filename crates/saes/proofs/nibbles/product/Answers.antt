@@ -1,4 +1,3 @@
-use borrow.Author.Rules.{rules}
 use Rattle.saes_spec.specs.Nibbles.{◌•₄◌}
 use Rattle.saes.proofs.nibbles.product.Goals as goal
 

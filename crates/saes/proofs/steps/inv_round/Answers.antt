@@ -1,4 +1,3 @@
-use borrow.Author.Rules.{rules}
 use Rattle.saes.proofs.steps.inv_round.Goals as goal
 
 pub returns-then-mixing : goal.returns-then-mixing

@@ -1,4 +1,3 @@
-use borrow.Author.Rules.{rules}
 use Rattle.octets.specs.Octets.{xor}
 use Rattle.saes.proofs.steps.mix_column.Goals as goal
 

@@ -1,4 +1,3 @@
-use borrow.Author.Rules.{rules}
 use Rattle.saes.proofs.steps.sub_nib.Goals as goal
 
 pub returns : goal.returns
