@@ -14,7 +14,8 @@ pub loop-i-init : goal.loop-i-init
 loop-i-init c = (search rules, refl, rw sub-zero)
 
 pub loop-i-preserved : goal.loop-i-preserved
-loop-i-preserved c =     let a = c.args in
+loop-i-preserved c =
+    let a = c.args in
     let l = c.loop-i in
     let turn = chained_turn (standard a.words.now a.rounds) l.value a.part.now l.i (length a.part.now / 16) c.loop-i-test.true in (
       search rules,
@@ -23,6 +24,7 @@ loop-i-preserved c =     let a = c.args in
     )
 
 pub returns : goal.returns
-returns c =     let a = c.args in
+returns c =
+    let a = c.args in
     let l = c.loop-i in
     sym (chained_end (standard a.words.now a.rounds) l.value (drop (l.i * 16) a.part.now) l.i (length a.part.now / 16) c.loop-i-test.false) ∙ l.invariant.2

@@ -11,7 +11,8 @@ pub loop-i-init : goal.loop-i-init
 loop-i-init c = (search rules, filled_none 16 _ _ refl)
 
 pub loop-i-preserved : goal.loop-i-preserved
-loop-i-preserved c =     let a = c.args in
+loop-i-preserved c =
+    let a = c.args in
     let l = c.loop-i in (
       search rules,
       filled_more l.invariant.1 (search rules) _
@@ -19,5 +20,6 @@ loop-i-preserved c =     let a = c.args in
     )
 
 pub returns : goal.returns
-returns c =     let a = c.args in
+returns c =
+    let a = c.args in
     filled_all c.loop-i.invariant.1 (search rules) ∙ sym (piece_tabulate (take a.count a.held ++ a.part.now))
