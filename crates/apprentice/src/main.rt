@@ -2,7 +2,7 @@
 // Simplified AES becomes a line of four hex digits. Bytes after these four are ignored.
 #![tactic(auto)]
 
-use libc::{STDIN_FILENO, STDOUT_FILENO};
+use std::io::{self, Read, Write};
 
 fn number(high: u8, low: u8) -> u16 {
     high as u16 * 256 + low as u16
@@ -15,28 +15,30 @@ fn line(state: u16, text: &mut [u8], at: usize) -> usize {
     text_put::put(b"\n", text, end)
 }
 
-fn show(key: u16, block: u16) -> bool {
+fn show(rt: &HostRuntime, key: u16, block: u16) -> io::Result<()> {
     let states = saes::encrypt(key, block);
     let mut text = [0u8; 15];
     let a = line(states.first, &mut text, 0);
     let b = line(states.second, &mut text, a);
     line(states.third, &mut text, b);
-    io::write_all(STDOUT_FILENO, &text)
+    io::writer(rt).write_all(&text)
 }
 
-fn is_answered(given: [u8; 4], n: usize) -> bool {
-    if n < 4 {
-        return io::write_all(STDOUT_FILENO, b"short\n");
-    }
-    show(number(given[0], given[1]), number(given[2], given[3]))
-}
-
-fn main() {
+// What could not be read is short, as an input is that ends.
+fn answered(rt: &HostRuntime) -> io::Result<()> {
     let mut given = [0u8; 4];
-    let n = io::read_full(STDIN_FILENO, &mut given);
-    if !is_answered(given, n) {
-        os::fail(
-            b"apprentice: standard output cannot be written to: open it or make room, and start again",
+    match rt.stdin().read_exact(&mut given) {
+        Ok(()) => show(rt, number(given[0], given[1]), number(given[2], given[3])),
+        Err(_) => io::writer(rt).write_all(b"short\n"),
+    }
+}
+
+fn main(rt: HostRuntime) {
+    if let Err(e) = answered(&rt) {
+        streams::tell(
+            &rt,
+            "apprentice: standard output cannot be written to: open it or make room, and start again",
+            &e,
         );
     }
 }
