@@ -3,7 +3,7 @@ use crate::{args, print};
 use args::Args;
 use saes_spec::States;
 
-#[derive(Drop)]
+#[derive(Clone, Copy)]
 pub enum SimplifiedCall {
     Encrypt,
     Decrypt,

@@ -9,14 +9,14 @@
 //     n  a number of 32 bits
 //     w  a number of 64 bits
 //     o  what the output holds before the call
-ghost use Rattle.io.specs.Counts.{IsPrefixLen};
+ghost use Rattle.std.specs.Prelude.{◌≤◌, length};
 
 use text_decimal::Number;
 use text_hex::Decoded;
 
 // Bytes go to the memory of inputs one after the other, those of word k from ends[k - 1] up to ends[k]. The bytes of an
 // output go to the front of its own memory, since a call writes there while it reads the inputs: numbers[k] counts them.
-#[derive(Drop)]
+#[derive(Clone, Copy)]
 pub struct Args {
     pub ok: bool,
     pub ends: [usize; 10],
@@ -24,7 +24,7 @@ pub struct Args {
 }
 
 // What one word gives.
-#[derive(Drop)]
+#[derive(Clone, Copy)]
 pub struct Taken {
     pub ok: bool,
     pub end: usize,
@@ -144,7 +144,7 @@ pub fn bytes(ins: &[u8], a: Args, k: usize) -> &[u8] {
 
 // How many bytes at the front of its memory the output has that is word k, so that a call is lent `&mut outs[..n]`.
 pub fn out_len(a: Args, k: usize, outs: &[u8]) -> usize
-    ensures { IsPrefixLen result outs.now }
+    ensures { result ≤ length outs.now }
 {
     let numbers = a.numbers;
     if 10 <= k {
@@ -155,7 +155,7 @@ pub fn out_len(a: Args, k: usize, outs: &[u8]) -> usize
 
 // So many bytes at the front of a memory, or none where it has fewer.
 pub fn within(n: usize, memory: &[u8]) -> usize
-    ensures { IsPrefixLen result memory.now }
+    ensures { result ≤ length memory.now }
 {
     if memory.len() < n { 0 } else { n }
 }

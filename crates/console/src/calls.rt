@@ -60,7 +60,7 @@ const ROWS: [[u8; 30]; 40] = [
     *b"read-resume         .xxm      ",
 ];
 
-#[derive(Drop)]
+#[derive(Clone, Copy)]
 pub enum Call {
     Basic(BasicCall),
     Moded(Operation),
@@ -142,7 +142,7 @@ fn row_of(w: &[u8]) -> usize {
 }
 
 fn has_name(row: [u8; 30], w: &[u8]) -> bool {
-    check::same(
+    octets_slice::equal(
         w,
         octets_slice::part(&row, 0, text_words::find(&row, 0, 32)),
     )

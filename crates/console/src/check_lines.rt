@@ -3,7 +3,7 @@ use crate::held::Held;
 use crate::{args, print};
 use args::Args;
 
-#[derive(Drop)]
+#[derive(Clone, Copy)]
 pub enum CheckCall {
     Whole,
     Start,

@@ -5,7 +5,7 @@ use aes::Ciphered;
 use aes_schedule::KeySchedule;
 use args::Args;
 
-#[derive(Drop)]
+#[derive(Clone, Copy)]
 pub enum BasicCall {
     Product,
     Schedule,

@@ -7,7 +7,7 @@ use image_receiver::Receiver;
 use image_receiver_answer::Receipt;
 
 // The answers that wait to be written end at `end`, and `cut` says that a write failed; a call that keeps a value has its field here.
-#[derive(Drop)]
+#[derive(Clone, Copy)]
 pub struct Held {
     pub end: usize,
     pub cut: bool,

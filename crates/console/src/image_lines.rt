@@ -6,7 +6,7 @@ use args::Args;
 use image_reader::Turn;
 use image_writer_answer::Numbers;
 
-#[derive(Drop)]
+#[derive(Clone, Copy)]
 pub enum ImageCall {
     Write,
     Start,

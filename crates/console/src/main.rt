@@ -13,7 +13,6 @@ mod mode_lines;
 mod print;
 mod receiver_lines;
 mod stopped;
-mod streams;
 mod view_lines;
 mod wide_lines;
 mod wrap_lines;
@@ -21,8 +20,13 @@ mod wrap_lines;
 ghost use Rattle.std.specs.Prelude.{◌<◌, length};
 
 use held::Held;
-use libc::STDIN_FILENO;
+use std::io;
+use std::io::Read;
 use text_lines::{Place, gather, has_begun, no_line};
+
+const READ_FAILED: &str = "dock: standard input cannot be read";
+
+const WRITE_FAILED: &str = "dock: the answers cannot be written to standard output";
 
 // The longest line, and the bytes that its words can stand for, two digits each.
 type Line = [u8; 65536];
@@ -33,7 +37,7 @@ type Bytes = [u8; 32768];
 type Answers = [u8; 132096];
 
 // Where reading stands: what is held, the line so far, and the place of the next byte to read.
-#[derive(Drop)]
+#[derive(Clone, Copy)]
 pub struct Fed {
     pub held: Held,
     pub place: Place,
@@ -41,14 +45,14 @@ pub struct Fed {
 }
 
 // What comes after a turn of reading: another; nothing, since the input ended; or nothing, since a read or a write failed, which was told.
-#[derive(Drop)]
+#[derive(Clone, Copy)]
 pub enum After {
     Another,
     Ended,
     Failed,
 }
 
-#[derive(Drop)]
+#[derive(Clone, Copy)]
 pub struct Turned {
     pub held: Held,
     pub place: Place,
@@ -56,26 +60,28 @@ pub struct Turned {
 }
 
 // After a write that failed, nothing more is written.
-fn written(held: Held, text: &[u8]) -> Held {
+fn written<E: Print + Eprint + Alloc>(rt: &E, held: Held, text: &[u8]) -> Held {
     if held.cut {
         return held.at(0);
     }
-    if streams::is_written(octets_slice::part(text, 0, held.end)) {
+    let answers = octets_slice::part(text, 0, held.end);
+    if streams::is_written(rt, &mut io::writer(rt), answers, WRITE_FAILED) {
         return held.at(0);
     }
     held.at(0).cut_off()
 }
 
 // Past the mark up to which there is room for one more answer, those that wait are written first.
-fn with_room(held: Held, text: &[u8]) -> Held {
+fn with_room<E: Print + Eprint + Alloc>(rt: &E, held: Held, text: &[u8]) -> Held {
     if held.end < 65536 {
         return held;
     }
-    written(held, text)
+    written(rt, held, text)
 }
 
 // Answers a whole line; where that puts nothing the line was bad.
-fn finish(
+fn finish<E: Print + Eprint + Alloc>(
+    rt: &E,
     h: Held,
     p: Place,
     line: &Line,
@@ -83,7 +89,7 @@ fn finish(
     outs: &mut Bytes,
     text: &mut Answers,
 ) -> Held {
-    let held = with_room(h, text);
+    let held = with_room(rt, h, text);
     let from = held.end;
     if p.over {
         return held.at(close(from, from, text));
@@ -101,7 +107,8 @@ fn close(from: usize, to: usize, text: &mut [u8]) -> usize {
 }
 
 // Reads `part` from `at` up to its next line feed, or its end.
-fn feed_line(
+fn feed_line<E: Print + Eprint + Alloc>(
+    rt: &E,
     held: Held,
     p: Place,
     part: &[u8],
@@ -125,13 +132,14 @@ fn feed_line(
         };
     }
     Fed {
-        held: finish(held, place, line, ins, outs, text),
+        held: finish(rt, held, place, line, ins, outs, text),
         place: no_line(),
         at: next,
     }
 }
 
-fn feed(
+fn feed<E: Print + Eprint + Alloc>(
+    rt: &E,
     h: Held,
     p: Place,
     part: &[u8],
@@ -144,13 +152,13 @@ fn feed(
     let mut place = p;
     let mut at: usize = 0;
     while at < part.len() {
-        let f = feed_line(held, place, part, at, line, ins, outs, text);
+        let f = feed_line(rt, held, place, part, at, line, ins, outs, text);
         held = f.held;
         place = f.place;
         at = f.at;
     }
     Fed {
-        held: written(held, text),
+        held: written(rt, held, text),
         place,
         at,
     }
@@ -176,25 +184,16 @@ fn is_end(after: After) -> bool {
     }
 }
 
-// Nothing more came, since the input ended or a read failed: at the end of the input a line that has begun counts, as if a line feed
-// stood behind it.
-fn last_turn(
+// The input ended: a line that has begun counts, as if a line feed stood behind it.
+fn last_turn<E: Print + Eprint + Alloc>(
+    rt: &E,
     held: Held,
     p: Place,
-    got: isize,
     line: &mut Line,
     ins: &mut Bytes,
     outs: &mut Bytes,
     text: &mut Answers,
 ) -> Turned {
-    if got < 0 {
-        streams::read_failed();
-        return Turned {
-            held,
-            place: p,
-            after: After::Failed,
-        };
-    }
     if !has_begun(p) {
         return Turned {
             held,
@@ -202,48 +201,69 @@ fn last_turn(
             after: After::Ended,
         };
     }
-    after_feed(feed(held, p, b"\n", line, ins, outs, text), After::Ended)
-}
-
-// Reads once and answers the lines that came whole.
-fn turn(held: Held, p: Place, line: &mut Line, text: &mut Answers) -> Turned {
-    let mut ins = [0u8; 32768];
-    let mut outs = [0u8; 32768];
-    let mut chunk = [0u8; 4096];
-    let got = libc::read(STDIN_FILENO, &mut chunk);
-    if got <= 0 {
-        return last_turn(held, p, got, line, &mut ins, &mut outs, text);
-    }
-    let n = io::count(got, &chunk);
     after_feed(
-        feed(held, p, &chunk[..n], line, &mut ins, &mut outs, text),
-        After::Another,
+        feed(rt, held, p, b"\n", line, ins, outs, text),
+        After::Ended,
     )
 }
 
-// Whether the input was read to its end and every answer was written. Nothing says that the input ends, so the turns are counted
-// down from a number that no run uses up.
-fn is_served(line: &mut Line, text: &mut Answers) -> bool {
+// Reads once and answers the lines that came whole.
+fn turn<E: Print + Eprint + Alloc, R: Read>(
+    rt: &E,
+    input: &mut R,
+    held: Held,
+    p: Place,
+    line: &mut Line,
+    text: &mut Answers,
+) -> Turned {
+    let mut ins = [0u8; 32768];
+    let mut outs = [0u8; 32768];
+    let mut chunk = [0u8; 4096];
+    match streams::read_part(rt, input, &mut chunk, READ_FAILED) {
+        Ok(0) => last_turn(rt, held, p, line, &mut ins, &mut outs, text),
+        Ok(n) => {
+            let part = &chunk[..n];
+            after_feed(
+                feed(rt, held, p, part, line, &mut ins, &mut outs, text),
+                After::Another,
+            )
+        }
+        Err(_) => Turned {
+            held,
+            place: p,
+            after: After::Failed,
+        },
+    }
+}
+
+// Whether the input was read to its end and every answer was written. Nothing says that the input ends, so the turns are bounded by
+// a number that no run uses up.
+fn is_served<E: Print + Eprint + Alloc, R: Read>(
+    rt: &E,
+    input: &mut R,
+    line: &mut Line,
+    text: &mut Answers,
+) -> bool {
     let mut held = Held::new();
     let mut place = no_line();
-    let mut turns = u64::MAX;
-    while turns > 0 {
-        let t = turn(held, place, line, text);
-        let after = t.after;
-        let After::Another = after else {
-            return is_end(after);
+    for _ in 0..u64::MAX {
+        let t = turn(rt, input, held, place, line, text);
+        let After::Another = t.after else {
+            return is_end(t.after);
         };
         held = t.held;
         place = t.place;
-        turns -= 1;
     }
     false
 }
 
-fn main() {
+// Where `dock` starts the program, with a word, it waits for a word that all was read and answered.
+fn main(rt: HostRuntime) {
     let mut line = [0u8; 65536];
     let mut text = [0u8; 132096];
-    if is_served(&mut line, &mut text) {
-        streams::report();
+    if is_served(&rt, &mut rt.stdin(), &mut line, &mut text) {
+        if streams::is_given(&rt, 1) {
+            streams::report(&rt, b"done\n");
+        }
     }
 }

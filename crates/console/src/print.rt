@@ -1,11 +1,11 @@
 // Answers as text, put into lent memory at a place: the place after them.
 use crate::stopped::NONE;
+use itoa::Buffer;
 
 // A number in decimal.
 pub fn number(n: u64, text: &mut [u8], at: usize) -> usize {
-    let mut digits = [0u8; 20];
-    let k = io::decimal(n, &mut digits);
-    text_put::put(&digits[..k], text, at)
+    let mut digits = Buffer::new();
+    text_put::put(digits.format(n).as_bytes(), text, at)
 }
 
 // A number, or `-` for the mark that there is none.

@@ -4,7 +4,7 @@ use crate::{args, print, stopped};
 use args::Args;
 use image_receiver::{ReceiveDone, ReceiveStarted};
 
-#[derive(Drop)]
+#[derive(Clone, Copy)]
 pub enum ReceiveCall {
     Begin,
     Receive,

@@ -2,7 +2,7 @@
 use crate::{args, print};
 use args::Args;
 
-#[derive(Drop)]
+#[derive(Clone, Copy)]
 pub enum WrapCall {
     Wrap,
     Unwrap,
