@@ -1,0 +1,10 @@
+use mathlib.Core.Path.{◌∙◌}
+use Rattle.aes_spec.specs.Cipher.{standard}
+use Rattle.cmac_run.proofs.Laws.{whole_fed}
+use borrow.Author.Rules.{rules}
+use Rattle.cmac.proofs.check_with.Goals as goal
+
+pub returns : goal.returns
+returns c =
+    let a = c.args in
+    c.close_run.ensures ∙ rw (c.fed-run.ensures, c.new.ensures) (whole_fed (standard a.words.now a.rounds) a.message.now)

@@ -1,0 +1,10 @@
+use mathlib.Core.Path.{◌∙◌}
+use Rattle.cmac.proofs.Under.{fed_under}
+use borrow.Author.Rules.{rules}
+use Rattle.cmac.proofs.fed_with.Goals as goal
+
+pub returns : goal.returns
+returns c =
+    let f = c in
+    let a = f.args in
+    c.record_of.ensures ∙ fed_under a.«record» a.part.now _ (c.fed-run.ensures ∙ rw f.run_of.ensures)

@@ -1,0 +1,7 @@
+use Rattle.cmac.specs.Calls.{start_of}
+use borrow.Author.Rules.{rules}
+use Rattle.cmac.proofs.start.Goals as goal
+
+pub returns : goal.returns
+unfolding start_of
+returns c = rw (c.record_of.ensures, c.new-run.ensures, c.new-made.ensures)
