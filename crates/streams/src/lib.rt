@@ -6,7 +6,7 @@ ghost use Rattle.std.specs.Io.{ReadsAtMost};
 ghost use Rattle.std.specs.Io.KnownBytes.{Appends, Consumes, IsAtEnd, ReadConsumes};
 
 use std::env::{Env, FillError};
-use std::fs::OpenOptions;
+use std::fs::{File, OpenOptions};
 use std::io::{self, Error, ErrorKind, Read, Write};
 use std::rt::Files;
 
@@ -86,6 +86,24 @@ fn without_number(text: &str) -> &str {
     match text.split_once(" (os error ") {
         Some((words, _)) => words,
         None => text,
+    }
+}
+
+// The file that an argument names, opened to be read; where it cannot be opened, that has been told. A missing argument counts as an
+// empty name, and a name that is no text names no file.
+pub fn opened<R: Env + Files + Eprint + Alloc>(rt: &R, i: usize, failed: &str) -> Option<R::File> {
+    let mut room = [0u8; 4096];
+    let size = rt.arg(i, &mut room).unwrap_or(0);
+    let file = match str::from_utf8(&room[..size]) {
+        Ok(name) => File::open(rt, name),
+        Err(_) => Err(Error::from(ErrorKind::InvalidFilename)),
+    };
+    match file {
+        Ok(it) => Some(it),
+        Err(e) => {
+            tell(rt, failed, &e);
+            None
+        }
     }
 }
 
