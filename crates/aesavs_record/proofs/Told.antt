@@ -71,14 +71,14 @@ module _ (s : Standing) (n : ℕ) where
   count_told c AtSecond = refl
 
   -- line 1
-  first-told : s.stage ≡ AtStart → (l : Line) → refusing (step_of s l n).deed ≡ not (expected s l n)
+  first_told : s.stage ≡ AtStart → (l : Line) → refusing (step_of s l n).deed ≡ not (expected s l n)
   unfolding step_of takes
-  first-told e Skipped = rw e
-  first-told e (Opens r) = rw e
-  first-told e (Marks w) = rw e
-  first-told e (Counts c) = rw e
-  first-told e (Value f) = rw e
-  first-told e Outside = rw e
+  first_told e Skipped = rw e
+  first_told e (Opens r) = rw e
+  first_told e (Marks w) = rw e
+  first_told e (Counts c) = rw e
+  first_told e (Value f) = rw e
+  first_told e Outside = rw e
 
   -- any other
   later_told : begins s.stage ≡ false → (l : Line) → refusing (step_of s l n).deed ≡ not (expected s l n)
@@ -94,7 +94,7 @@ module _ (s : Standing) (n : ℕ) where
   refused_exactly l = go s.stage refl
     where
       go : (g : Stage) → s.stage ≡ g → refusing (step_of s l n).deed ≡ not (expected s l n)
-      go AtStart e = first-told e l
+      go AtStart e = first_told e l
       go AtMark e = later_told (ap begins e) l
       go AtRecord e = later_told (ap begins e) l
       go AtKey e = later_told (ap begins e) l
