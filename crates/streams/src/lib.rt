@@ -122,3 +122,50 @@ pub fn report<R: Files>(rt: &R, word: &[u8]) {
         let _ = lent.write_all(word);
     }
 }
+
+#[cfg(test)]
+mod tests {
+    use super::*;
+
+    // Gives one byte at a time, and fails where none is left.
+    #[derive(Drop)]
+    struct Slow {
+        left: u8,
+    }
+
+    impl Read for Slow {
+        fn read(&mut self, buf: &mut [u8]) -> io::Result<usize> {
+            if self.left == 0 {
+                return Err(Error::from_raw_os_error(5));
+            }
+            if buf.is_empty() {
+                return Ok(0);
+            }
+            buf[0] = self.left;
+            self.left -= 1;
+            Ok(1)
+        }
+    }
+
+    #[test]
+    fn reads_in_parts_up_to_an_error(rt: HostRuntime) {
+        let mut slow = Slow { left: 5 };
+        let mut part = [0u8; 3];
+        let first = read_full(&rt, &mut slow, &mut part, "a test");
+        assert!(rt; matches!(&first, Ok(3)));
+        assert_eq!(rt; part, [5, 4, 3]);
+        let second = read_full(&rt, &mut slow, &mut part, "a test of a failed read");
+        assert!(rt; second.is_err());
+    }
+
+    #[test]
+    fn writes_all(rt: HostRuntime) {
+        let mut held = Vec::new(rt.alloc());
+        assert!(rt; is_written(&rt, &mut held, b"a line", "a test"));
+        assert_eq!(rt; held.as_slice(), b"a line".as_slice());
+        assert_eq!(rt;
+            without_number("No space left on device (os error 28)"),
+            "No space left on device"
+        );
+    }
+}
