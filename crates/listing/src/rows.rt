@@ -1,9 +1,8 @@
 // The lines of a listing, put into lent memory at a place: the place after them.
 
 fn number(n: u64, text: &mut [u8], at: usize) -> usize {
-    let mut digits = [0u8; 20];
-    let k = io::decimal(n, &mut digits);
-    text_put::put(&digits[..k], text, at)
+    let mut digits = itoa::Buffer::new();
+    text_put::put(digits.format(n).as_bytes(), text, at)
 }
 
 pub fn head(text: &mut [u8], at: usize) -> usize {
