@@ -1,19 +1,19 @@
 -- A list of words by the rows and columns of its bytes. Assumes nothing.
 use mathlib.Core.Path.{◌≡◌, refl, sym, ap, ◌∙◌}
 use mathlib.Core.List.{List, [], ◌∷◌, map}
-use Prim.Native.Nat.{ℕ, zero, suc, ◌+◌, ◌*◌, ◌%◌, ◌≤◌, ◌<◌}
+use Prim.Native.Nat.{ℕ, zero, suc, ◌+◌, ◌*◌, ◌%◌, ◌<◌}
 use native.Mathlib.Nat.{zero-lt-suc}
 use native.Mathlib.Omega.{arith}
 use lib.ListN.{length, get_or, take, length-map}
 use lib.Seq.{get_or-take}
 use Rattle.octets.specs.Octets.{xor, tabulate, Bytes, Octets}
-use Rattle.octets.specs.Words.{byte, word, bytes_of}
+use Rattle.octets.specs.Words.{byte, bytes_of}
 use Rattle.octets.proofs.Fill.{length_tabulate, get_d_tabulate, is_tabulate}
 use Rattle.octets.proofs.Words.{byte_lt, byte_xor, byte0_word, byte1_word, byte2_word, byte3_word}
-use Rattle.aes_mix.specs.Mixing.{row, column, mix_row, inv_mix_row, mix_column, inv_mix_column}
+use Rattle.aes_mix.specs.Mixing.{row, column, mix_column, inv_mix_column}
 use Rattle.aes_mix.proofs.Mix.{row_lt}
 use Rattle.aes_spec.specs.State.{Shape, at, state, mix_at, mix_columns, inv_mix_columns, add_round_key}
-use Rattle.aes_spec.proofs.State.{Block, is_state}
+use Rattle.aes_spec.proofs.State.{is_state}
 use Rattle.aes_spec.proofs.Undo.{by_row}
 use Rattle.rijndael_model.specs.Model.{key_added}
 

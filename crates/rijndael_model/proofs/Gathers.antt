@@ -4,7 +4,7 @@ use mathlib.Core.List.{List, map}
 use Prim.Native.Nat.{ℕ, ◌+◌, ◌-◌, ◌*◌, ◌/◌, ◌%◌, ◌<◌}
 use native.Mathlib.Nat.{mod-lt}
 use native.Mathlib.Omega.{arith}
-use lib.ListN.{length, get_or}
+use lib.ListN.{length}
 use Rattle.octets.specs.Octets.{tabulate}
 use Rattle.octets.specs.Words.{byte, bytes_of}
 use Rattle.octets.proofs.Fill.{length_tabulate, get_d_tabulate}
