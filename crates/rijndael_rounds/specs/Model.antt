@@ -1,6 +1,6 @@
 -- The shifts of rows as the code has them, and a state whose columns stand twice in a row, so that a shift needs no remainder.
 -- Assumes nothing: these are definitions.
-use Rattle.std.specs.Prelude.{ℕ, zero, suc, ◌+◌, ◌*◌, ◌≤◌, ◌<◌, ◌≡◌, List, length, get_or}
+use Rattle.std.specs.Prelude.{ℕ, zero, suc, ◌+◌, ◌*◌, ◌≤◌, ◌<◌, ◌≡◌, List, get_or}
 use Rattle.aes_spec.specs.State.{Shape}
 use Rattle.rijndael_spec.specs.declared.Width.{Width}
 use Rattle.rijndael_spec.specs.declared.Width.TheVariants.{Six, Eight}

@@ -10,8 +10,3 @@ abbrev pub invariant-loop-i : goal.invariant-loop-i
 invariant-loop-i l = let c = standard l.words l.rounds in
     (l.i ≤ l.i-end) × (length l.output ≡ length l.input) × (length (pieces c l.ctr l.input l.i) ≡ l.i * 16)
     × (l.output ≡ take (length l.input) (pieces c l.ctr l.input l.i ++ drop (l.i * 16) l.initial.output))
-
--- MEASURES
--- abbrev pub decreases-loop-i : goal.decreases-loop-i
--- decreases-loop-i l = l.i-end - l.i
---

@@ -6,8 +6,3 @@ use Rattle.rijndael_schedule.proofs.mix_back.Given as goal
 
 abbrev pub invariant-loop-i : goal.invariant-loop-i
 invariant-loop-i l = (length l.words ≡ length l.initial.words) × ((l.from ≤ l.i) × (l.words ≡ mixed_back l.from (min l.i l.end) l.initial.words))
-
--- MEASURES
--- abbrev pub decreases-loop-i : goal.decreases-loop-i
--- decreases-loop-i l = l.end - l.i
---

@@ -8,8 +8,3 @@ use Rattle.ccm_stream.proofs.last.short_sum.Given as goal
 
 abbrev pub invariant-loop-i : goal.invariant-loop-i
 invariant-loop-i l = (l.i ≤ 16) × Filled 16 (λ k. cond (ltb (l.at + k) (length l.s)) (xor (get_or l.s (l.at + k) 0) (get_or l.block k 0)) 0) l.sum l.i
-
--- MEASURES
--- abbrev pub decreases-loop-i : goal.decreases-loop-i
--- decreases-loop-i l = 16 - l.i
---
