@@ -1,6 +1,6 @@
 -- KEYEXPANSION of FIPS 197, 5.2, over any substitution `sub` of bytes: the standard's is at `s_box`.
 -- Nk is the number of words of the key. Assumes nothing: these are definitions.
-use Rattle.std.specs.Prelude.{ℕ, zero, suc, ◌+◌, ◌-◌, ◌*◌, ◌/◌, ◌%◌, Bool, ◌&&◌, cond, List, [], ◌∷◌, ◌++◌, eqb, ltb, leb, length, get_or}
+use Rattle.std.specs.Prelude.{ℕ, zero, suc, ◌-◌, ◌*◌, ◌/◌, ◌%◌, Bool, ◌&&◌, cond, List, [], ◌∷◌, ◌++◌, eqb, ltb, leb, length, get_or}
 use Rattle.octets.specs.Octets.{xor, over}
 use Rattle.octets.specs.Words.{word, word_at}
 use Rattle.field.specs.Field.{x_power}

@@ -1,5 +1,5 @@
 -- A matrix times a column is linear, and over its table a sum of turned entries is a column of a round. Assumes nothing.
-use mathlib.Core.Path.{◌≡◌, refl, sym, ap, ap₂, ◌∙◌}
+use mathlib.Core.Path.{◌≡◌, refl, sym, ap₂, ◌∙◌}
 use Prim.Native.Nat.{ℕ, ◌<◌}
 use native.Mathlib.Omega.{arith}
 use Rattle.octets.specs.Octets.{xor}

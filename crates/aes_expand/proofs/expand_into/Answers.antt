@@ -1,10 +1,9 @@
-use lib.ListN.{length}
 use Prim.Native.Nat.{◌<◌}
 use borrow.Author.Tests.{le-leb, lt-leb, lt-ltb}
 use native.Mathlib.Omega.{arith}
-use mathlib.Core.Path.{sym, ap, ◌∙◌}
+use mathlib.Core.Path.{sym, ◌∙◌}
 use Rattle.aes_expand.specs.Expansion.{expanded_over}
-use Rattle.aes_expand.proofs.Laws.{expanded-over, length_over}
+use Rattle.aes_expand.proofs.Laws.{expanded-over}
 use Rattle.aes_expand.proofs.expand_into.Goals as goal
 
 pub returns-then-nk-eq0 : goal.returns-then-nk-eq0
@@ -23,5 +22,5 @@ pub words_into-requires : goal.words_into-requires
 words_into-requires c = (omega arith, (omega arith, omega arith))
 
 pub returns : goal.returns
-returns c =     let a = c.args in
+returns c = let a = c.args in
     c.words_into.ensures ∙ sym (expanded-over _ _ a.nk a.n _ (omega arith) (omega arith) (omega arith))

@@ -1,4 +1,3 @@
-use borrow.Author.Rules.{rules}
 use Rattle.aes_expand.proofs.key_word.Goals as goal
 
 pub returns : goal.returns

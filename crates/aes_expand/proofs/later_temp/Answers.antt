@@ -1,6 +1,5 @@
 use borrow.Author.Tests.{eq-eqb, ne_eqb, lt-ltb, le-ltb}
 use Rattle.aes_expand.specs.Expansion.{later_temp}
-use borrow.Author.Rules.{rules}
 use Rattle.aes_expand.proofs.later_temp.Goals as goal
 
 pub returns-then-m-eq4 : goal.returns-then-m-eq4

@@ -1,13 +1,12 @@
 use mathlib.Core.Path.{◌≡◌, refl, sym, ◌∙◌}
-use Prim.Native.Nat.{◌+◌, ◌-◌, ◌/◌, ◌%◌, ◌≤◌, ◌<◌, min}
+use Prim.Native.Nat.{◌+◌, min}
 use native.Mathlib.Omega.{arith}
 use borrow.Author.Rules.{rules}
-use lib.ListN.{length, set, length-set}
-use Rattle.octets.specs.Octets.{xor, over, entry}
-use Rattle.field.specs.Field.{x_power}
+use lib.ListN.{length-set}
+use Rattle.octets.specs.Octets.{xor, entry}
 use Rattle.aes_expand.specs.Expansion.{key_expansion}
 use Rattle.aes_expand.proofs.Laws.{next_key}
-use Rattle.aes_expand.proofs.Groups.{after_group, first_group, Grown, grown_more, grown_over, over_self, grown_self, first_of_group, later_in_group}
+use Rattle.aes_expand.proofs.Groups.{after_group, first_group, grown_more, grown_over, over_self, grown_self, first_of_group, later_in_group}
 use Rattle.aes_expand.proofs.words_into.Goals as goal
 
 pub loop-i-init : goal.loop-i-init
@@ -15,7 +14,7 @@ unfolding key_expansion
 loop-i-init c = search rules
 
 pub loop-i-preserved : goal.loop-i-preserved
-loop-i-preserved c =     let a = c.args in
+loop-i-preserved c = let a = c.args in
     let l = c.loop-i in
     let sub = entry a.sbox.now in (
       simp length-set l.invariant.0,
@@ -27,7 +26,7 @@ loop-i-preserved c =     let a = c.args in
     )
 
 pub loop-i-2-init : goal.loop-i-2-init
-loop-i-2-init c =     let a = c.args in
+loop-i-2-init c = let a = c.args in
     let l = c.loop-i in
     let sub = entry a.sbox.now in
     let e : l.i ≡ min a.nk a.n = omega arith in (
@@ -43,7 +42,7 @@ loop-i-2-init c =     let a = c.args in
 
 pub loop-m-init : goal.loop-m-init
 unfolding xor
-loop-m-init c =     let l = c.loop-i-2 in
+loop-m-init c = let l = c.loop-i-2 in
     let k = c.loop-i in
     let a = c.args in
     let e : min l.i a.n ≡ l.i = omega arith in
@@ -56,7 +55,7 @@ loop-m-init c =     let l = c.loop-i-2 in
 
 pub loop-m-preserved : goal.loop-m-preserved
 unfolding xor
-loop-m-preserved c =     let t = c.loop-m in
+loop-m-preserved c = let t = c.loop-m in
     let l = c.loop-i-2 in
     let a = c.args in
     let q = l.invariant.1.1.1 (omega arith) in
@@ -68,7 +67,7 @@ loop-m-preserved c =     let t = c.loop-m in
 
 pub loop-i-2-preserved : goal.loop-i-2-preserved
 unfolding xor
-loop-i-2-preserved c =     let t = c.loop-m in
+loop-i-2-preserved c = let t = c.loop-m in
     let l = c.loop-i-2 in
     let k = c.loop-i in
     let a = c.args in
@@ -90,7 +89,7 @@ loop-i-2-preserved c =     let t = c.loop-m in
     )
 
 pub returns : goal.returns
-returns c =     let a = c.args in
+returns c = let a = c.args in
     let l = c.loop-i-2 in
     let k = c.loop-i in
     let e : min l.i a.n ≡ a.n = omega arith in

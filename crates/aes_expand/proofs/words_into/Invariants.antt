@@ -1,13 +1,10 @@
-use mathlib.Core.Path.{◌≡◌, refl, sym, ◌∙◌}
+use mathlib.Core.Path.{◌≡◌}
 use Prim.Native.Nat.{◌+◌, ◌-◌, ◌/◌, ◌%◌, ◌≤◌, ◌<◌, min}
-use native.Mathlib.Omega.{arith}
-use borrow.Author.Rules.{rules}
-use lib.ListN.{length, set, length-set}
-use Rattle.octets.specs.Octets.{xor, over, entry}
+use lib.ListN.{length}
+use Rattle.octets.specs.Octets.{over, entry}
 use Rattle.field.specs.Field.{x_power}
 use Rattle.aes_expand.specs.Expansion.{key_expansion}
-use Rattle.aes_expand.proofs.Laws.{next_key}
-use Rattle.aes_expand.proofs.Groups.{after_group, first_group, Grown, grown_more, grown_over, over_self, grown_self, first_of_group, later_in_group}
+use Rattle.aes_expand.proofs.Groups.{Grown}
 use Rattle.aes_expand.proofs.words_into.Given as goal
 
 abbrev pub invariant-loop-i : goal.invariant-loop-i
@@ -27,4 +24,3 @@ decreases-loop-m l = l.size - l.m
 
 abbrev pub decreases-loop-i-2 : goal.decreases-loop-i-2
 decreases-loop-i-2 l = l.n - l.i
-

@@ -6,4 +6,4 @@ use Rattle.aes_mix.proofs.inv_mix_column.Goals as goal
 
 pub returns : goal.returns
 unfolding xor
-returns c =     c.mix_column.ensures ∙ inv_mix_code c.args.x (search rules) _ (cc)
+returns c = c.mix_column.ensures ∙ inv_mix_code c.args.x (search rules) _ (cc)

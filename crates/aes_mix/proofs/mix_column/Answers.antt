@@ -5,5 +5,5 @@ use Rattle.aes_mix.proofs.mix_column.Goals as goal
 
 pub returns : goal.returns
 unfolding xor
-returns c =     let x = c.args.x in
+returns c = let x = c.args.x in
     cc (mix_code x (search rules))

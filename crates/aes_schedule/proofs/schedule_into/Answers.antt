@@ -10,11 +10,10 @@ use Rattle.aes_schedule.specs.declared.Expanded.{Expanded}
 use Rattle.aes_schedule.specs.declared.KeySize.{KeySize}
 use Rattle.aes_schedule.specs.Schedule.{schedule_of, key_size}
 use Rattle.aes_schedule.proofs.Laws.{schedule_table, rounds_lt, put_schedule}
-use borrow.Author.Rules.{rules}
 use Rattle.aes_schedule.proofs.schedule_into.Goals as goal
 
 pub returns : goal.returns
-returns c =     let key = c.args.key.now in
+returns c = let key = c.args.key.now in
     let t = c.table-sbox in
     let sub = entry t.result in
     let f = c.key_size-size.ensures in

@@ -2,12 +2,11 @@ use mathlib.Core.Path.{◌∙◌}
 use Rattle.octets.specs.Octets.{entry}
 use Rattle.aes_words.proofs.Rotate.{is_diagonal, same_word}
 use Rattle.aes_words.specs.Columns.{diagonal}
-use borrow.Author.Rules.{rules}
 use Rattle.aes_words.proofs.sub_word.Goals as goal
 
 pub returns : goal.returns
 unfolding diagonal
-returns c =     let a = c.args in
+returns c = let a = c.args in
     let p = c.looked_up.ensures in
     let q = c.looked_up-2.ensures in
     let u = c.looked_up-3.ensures in

@@ -1,5 +1,4 @@
 use Rattle.aes_words.proofs.Rotate.{bytes_reversed}
-use borrow.Author.Rules.{rules}
 use Rattle.aes_words.proofs.word_bytes.Goals as goal
 
 pub returns : goal.returns

@@ -1,6 +1,5 @@
 use Prim.Native.Nat.{◌+◌, ◌≤◌, ◌<◌}
 use native.Mathlib.Omega.{arith}
-use borrow.Author.Rules.{rules}
 use borrow.Author.Tests.{lt-ltb, le-ltb}
 use Rattle.field.specs.Logarithms.{added}
 use Rattle.field.proofs.added.Goals as goal

@@ -1,6 +1,5 @@
 use Prim.Native.Nat.{ℕ}
 use native.Mathlib.Omega.{arith}
-use borrow.Author.Rules.{rules}
 use Rattle.field.proofs.Laws.{product_zero}
 use Rattle.field.proofs.Logarithms.{zero_product, product_entries}
 use Rattle.field.proofs.product.Goals as goal
@@ -12,7 +11,7 @@ pub returns-then-b-eq0 : goal.returns-then-b-eq0
 returns-then-b-eq0 c = rw (c.if-b-eq0.true, product_zero)
 
 pub returns : goal.returns
-returns c =     let a : ℕ = c.args.a in
+returns c = let a : ℕ = c.args.a in
     let b : ℕ = c.args.b in
     cc
     (product_entries a b (omega arith) (omega arith)

@@ -1,7 +1,5 @@
 use mathlib.Core.Path.{refl, sym, ◌∙◌}
-use Prim.Native.Nat.{◌≤◌, ◌-◌, ◌+◌}
-use lib.ListN.{get_or}
-use Rattle.octets.proofs.Fill.{Filled, filled_none, filled_more, filled_all}
+use Rattle.octets.proofs.Fill.{filled_none, filled_more, filled_all}
 use Rattle.octets_block.proofs.Laws.{part_tabulate}
 use borrow.Author.Rules.{rules}
 use Rattle.octets_block.proofs.get.Goals as goal

@@ -1,9 +1,6 @@
-use mathlib.Core.Path.{refl, sym, ◌∙◌}
-use Prim.Native.Nat.{◌≤◌, ◌-◌, ◌+◌}
+use Prim.Native.Nat.{◌≤◌, ◌+◌}
 use lib.ListN.{get_or}
-use Rattle.octets.proofs.Fill.{Filled, filled_none, filled_more, filled_all}
-use Rattle.octets_block.proofs.Laws.{part_tabulate}
-use borrow.Author.Rules.{rules}
+use Rattle.octets.proofs.Fill.{Filled}
 use Rattle.octets_block.proofs.get.Given as goal
 
 abbrev pub invariant-loop-i : goal.invariant-loop-i
@@ -12,4 +9,4 @@ invariant-loop-i l = (l.i ≤ 16) × Filled 16 (λ k. get_or l.s (l.at + k) 0) l
 -- MEASURES
 -- abbrev pub decreases-loop-i : goal.decreases-loop-i
 -- decreases-loop-i l = 16 - l.i
--- 
+--

@@ -1,7 +1,6 @@
 use mathlib.Core.Path.{sym, ◌∙◌}
 use borrow.Author.Tests.{leb-true}
 use Rattle.octets_block.specs.Blocks.{block_at}
-use borrow.Author.Rules.{rules}
 use Rattle.octets_block.proofs.load.Goals as goal
 
 pub get-requires : goal.get-requires

@@ -1,11 +1,7 @@
-use mathlib.Core.Path.{refl, sym, ◌∙◌}
-use Prim.Native.Nat.{◌≤◌, ◌-◌}
+use Prim.Native.Nat.{◌≤◌}
 use lib.ListN.{get_or}
 use Rattle.octets.specs.Octets as octets
-use Rattle.octets.proofs.Fill.{Filled, filled_none, filled_more, filled_all}
-use Rattle.octets_block.proofs.Laws.{sum_tabulate}
-use native.Mathlib.Omega.{arith}
-use borrow.Author.Rules.{rules}
+use Rattle.octets.proofs.Fill.{Filled}
 use Rattle.octets_block.proofs.xor.Given as goal
 
 abbrev pub invariant-loop-i : goal.invariant-loop-i
@@ -14,4 +10,4 @@ invariant-loop-i l = (l.i ≤ 16) × Filled 16 (λ k. octets.xor (get_or l.a k 0
 -- MEASURES
 -- abbrev pub decreases-loop-i : goal.decreases-loop-i
 -- decreases-loop-i l = 16 - l.i
--- 
+--

@@ -1,7 +1,6 @@
 use mathlib.Core.Path.{sym, ◌∙◌}
 use borrow.Author.Tests.{leb-true}
 use Rattle.octets_slice.specs.Slices.{copied}
-use borrow.Author.Rules.{rules}
 use Rattle.octets_slice.proofs.copy.Goals as goal
 
 pub put_all-requires : goal.put_all-requires

@@ -1,13 +1,10 @@
 -- What is gathered so far is 0, and the rest is the same: exactly where all is. Assumes nothing.
 use Rattle.octets.specs.Octets as octets
-use Rattle.octets.proofs.Same.{same_gather, same_gathered}
-use mathlib.Core.Path.{◌≡◌, refl, sym, ◌∙◌}
+use mathlib.Core.Path.{◌≡◌}
 use mathlib.Core.Bool.{◌&&◌}
-use Prim.Native.Nat.{◌≤◌, ◌-◌}
+use Prim.Native.Nat.{◌≤◌}
 use lib.Dec.{eqb}
 use lib.ListN.{length, drop}
-use borrow.Author.Rules.{rules}
-use native.Mathlib.Omega.{arith}
 use Rattle.octets_slice.proofs.differences.Given as goal
 
 abbrev pub invariant-loop-k : goal.invariant-loop-k
@@ -16,4 +13,4 @@ invariant-loop-k l = (l.k ≤ length l.a) × (l.k-end ≡ length l.a) × ((eqb l
 -- MEASURES
 -- abbrev pub decreases-loop-k : goal.decreases-loop-k
 -- decreases-loop-k l = length l.a - l.k
--- 
+--

@@ -1,6 +1,4 @@
 use Rattle.octets.proofs.Same.{same_lengths}
-use mathlib.Core.Path.{◌∙◌}
-use borrow.Author.Rules.{rules}
 use Rattle.octets_slice.proofs.equal.Goals as goal
 
 pub returns-then-a-b : goal.returns-then-a-b

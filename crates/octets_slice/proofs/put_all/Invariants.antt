@@ -1,9 +1,7 @@
-use mathlib.Core.Path.{◌≡◌, refl, ap, ◌∙◌}
-use Prim.Native.Nat.{◌-◌, ◌≤◌, ◌+◌, suc}
-use lib.ListN.{length, length-set}
-use lib.Seq.{paste, paste-zero, paste-suc}
-use borrow.Author.Rules.{rules}
-use native.Mathlib.Omega.{arith}
+use mathlib.Core.Path.{◌≡◌}
+use Prim.Native.Nat.{◌≤◌}
+use lib.ListN.{length}
+use lib.Seq.{paste}
 use Rattle.octets_slice.proofs.put_all.Given as goal
 
 abbrev pub invariant-loop-k : goal.invariant-loop-k
@@ -12,4 +10,4 @@ invariant-loop-k l = (l.k ≤ length l.s) × (l.k-end ≡ length l.s) × (length
 -- MEASURES
 -- abbrev pub decreases-loop-k : goal.decreases-loop-k
 -- decreases-loop-k l = length l.s - l.k
--- 
+--
