@@ -1,9 +1,7 @@
 -- From what the parts of a call give to what the call is to give. Assumes nothing.
 use mathlib.Core.Path.{◌≡◌, refl, sym, ap, ◌∙◌}
-use mathlib.Core.List.{List, [], ◌∷◌}
+use mathlib.Core.List.{List}
 use Prim.Native.Nat.{ℕ}
-use types.Run.{OneOf, miss}
-use denote.Enum.Declared.{tag_of}
 use lib.ListN.{length, replicate}
 use Rattle.octets.specs.Octets.{Bytes}
 use Rattle.aes_sbox.specs.Sbox.{s_box}
@@ -23,23 +21,22 @@ use Rattle.modes_spec.specs.declared.Operation.{Operation}
 use Rattle.modes_answer.specs.Answers.{mode_number, left_over, judged}
 use Rattle.modes_answer.specs.declared.ModeAnswer.{ModeAnswer}
 use Rattle.modes_answer.specs.declared.ModeAnswer.TheVariants.{Done, BadKey, BadIv, NotPieces, OutputShort}
-use Rattle.modes_answer.specs.contracts.ModeAnswer.{the_type}
 use Rattle.modes_answer.proofs.Answers.{met, left_none}
 use Rattle.modes.specs.Calls.{mode_answer, mode_output, mode_next, answer_with}
 use Rattle.modes.specs.declared.Applied.{Applied}
 
 -- an answer that is not the first case leaves the output as it was
 pub refused_keeps : (a : ModeAnswer) (o : Operation) (key iv inp out : List ℕ)
-    → OneOf (1 ∷ 2 ∷ 3 ∷ 4 ∷ []) (tag_of the_type a) → mode_output a o key iv inp out ≡ out
-refused_keeps Done o key iv inp out h = absurd (miss (1 ∷ 2 ∷ 3 ∷ 4 ∷ []) 0 tt h)
+    → (a ≡ Done → ⊥) → mode_output a o key iv inp out ≡ out
+refused_keeps Done o key iv inp out h = absurd (h refl)
 refused_keeps BadKey o key iv inp out h = refl
 refused_keeps BadIv o key iv inp out h = refl
 refused_keeps NotPieces o key iv inp out h = refl
 refused_keeps OutputShort o key iv inp out h = refl
 
 -- and hands on zeros
-pub refused_zeros : (a : ModeAnswer) (o : Operation) (key iv inp : List ℕ) → OneOf (1 ∷ 2 ∷ 3 ∷ 4 ∷ []) (tag_of the_type a) → mode_next a o key iv inp ≡ replicate 16 0
-refused_zeros Done o key iv inp h = absurd (miss (1 ∷ 2 ∷ 3 ∷ 4 ∷ []) 0 tt h)
+pub refused_zeros : (a : ModeAnswer) (o : Operation) (key iv inp : List ℕ) → (a ≡ Done → ⊥) → mode_next a o key iv inp ≡ replicate 16 0
+refused_zeros Done o key iv inp h = absurd (h refl)
 refused_zeros BadKey o key iv inp h = refl
 refused_zeros BadIv o key iv inp h = refl
 refused_zeros NotPieces o key iv inp h = refl

@@ -1,11 +1,9 @@
 -- From what the parts of a call give to what the call is to give. Assumes nothing.
 use mathlib.Core.Path.{◌≡◌, refl, sym, ap, ◌∙◌}
 use mathlib.Core.Bool.{Bool, true, false, cond}
-use mathlib.Core.List.{List, [], ◌∷◌}
+use mathlib.Core.List.{List}
 use Prim.Native.Nat.{ℕ, ◌+◌, ◌-◌, ◌%◌, ◌≤◌}
 use native.Mathlib.Omega.{arith}
-use types.Run.{OneOf, miss}
-use denote.Enum.Declared.{tag_of}
 use borrow.Author.Tests.{eqb-true, ltb-false}
 use lib.Dec.{eqb, ltb}
 use lib.ListN.{length, drop}
@@ -27,26 +25,22 @@ use Rattle.wrap.specs.Calls.{wrap_answer, wrap_output, opening, unwrap_answer, u
 use Rattle.wrap.specs.Model.{opened_over}
 use Rattle.wrap_answer.specs.declared.WrapAnswer.{WrapAnswer}
 use Rattle.wrap_answer.specs.declared.WrapAnswer.TheVariants.{WrapDone, WrapKey, WrapSize, WrapRoom, WrongInitial}
-use Rattle.wrap_answer.specs.contracts.WrapAnswer.{the_type}
 use Rattle.wrap_answer.proofs.Sizes.{size_parts}
 
--- the tag of an answer that is not the first case
+-- an answer that is not the first case
 abbrev pub Refused : WrapAnswer → Type 0
-Refused a = OneOf (1 ∷ 2 ∷ 3 ∷ 4 ∷ []) (tag_of the_type a)
-
-not_done : (a : WrapAnswer) → Refused a → a ≡ WrapDone → ⊥
-not_done a h e = miss (1 ∷ 2 ∷ 3 ∷ 4 ∷ []) 0 tt (rw e at h)
+Refused a = a ≡ WrapDone → ⊥
 
 -- an answer that is not the first case leaves the output as it was
 pub wrap_kept : (a : WrapAnswer) (key dat out : List ℕ) → Refused a → out ≡ wrap_output a key dat out
-wrap_kept WrapDone key dat out h = absurd (not_done WrapDone h refl)
+wrap_kept WrapDone key dat out h = absurd (h refl)
 wrap_kept WrapKey key dat out h = refl
 wrap_kept WrapSize key dat out h = refl
 wrap_kept WrapRoom key dat out h = refl
 wrap_kept WrongInitial key dat out h = refl
 
 pub unwrap_kept : (a : WrapAnswer) (key dat out : List ℕ) → Refused a → out ≡ unwrap_output a key dat out
-unwrap_kept WrapDone key dat out h = absurd (not_done WrapDone h refl)
+unwrap_kept WrapDone key dat out h = absurd (h refl)
 unwrap_kept WrapKey key dat out h = refl
 unwrap_kept WrapSize key dat out h = refl
 unwrap_kept WrapRoom key dat out h = refl
@@ -83,7 +77,7 @@ module _ (key : ℕ) (size : Bool) (result out : ℕ) where
   ruled_refused z a e h = go (eqb key 0) size (ltb out result) e
     where
       go : (k s r : Bool) → a ≡ cond k (cond s (cond r WrapRoom WrapDone) WrapSize) WrapKey → a ≡ cond k (cond s (cond r WrapRoom z) WrapSize) WrapKey
-      go true true false f = absurd (not_done a h f)
+      go true true false f = absurd (h f)
       go true true true f = f
       go true false r f = f
       go false s r f = f

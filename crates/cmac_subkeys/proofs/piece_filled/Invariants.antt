@@ -9,8 +9,3 @@ use Rattle.cmac_subkeys.proofs.piece_filled.Given as goal
 
 abbrev pub invariant-loop-i : goal.invariant-loop-i
 invariant-loop-i l = (l.i ≤ 16) × Filled 16 (λ k. get_or (take l.count l.held ++ l.part) k 0) l.piece l.i
-
--- MEASURES
--- abbrev pub decreases-loop-i : goal.decreases-loop-i
--- decreases-loop-i l = 16 - l.i
--- 

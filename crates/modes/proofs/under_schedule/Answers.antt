@@ -1,0 +1,27 @@
+use Prim.Native.Nat.{ℕ}
+use Rattle.modes_run.proofs.Agree.{through_forward, through_backward}
+use Rattle.modes_run.specs.Model.{run_over}
+use Rattle.aes_spec.specs.Model.{one_way, inverse_words}
+use mathlib.Core.List.{List}
+use mathlib.Core.Path.{sym, ap, ◌∙◌}
+use borrow.Author.Rules.{rules}
+use Rattle.modes.proofs.under_schedule.Goals as goal
+
+pub returns-then-inverts : goal.returns-then-inverts
+returns-then-inverts c =
+    let k = c in
+    let a = k.args in
+    let w = a.words.now in
+    c.run.ensures
+    ∙ ap (λ (v : List ℕ). run_over (one_way v a.rounds) a.operation a.iv a.input.now a.output.now) k.inverse_words.ensures
+    ∙ through_backward w (inverse_words w a.rounds) a.rounds a.operation a.iv a.input.now a.output.now
+    (sym k.inverts.ensures ∙ k.if-inverts.true)
+
+pub returns : goal.returns
+returns c =
+    let k = c in
+    let a = k.args in
+    let w = a.words.now in
+    c.run-2.ensures
+    ∙ through_forward w (inverse_words w a.rounds) a.rounds a.operation a.iv a.input.now a.output.now
+    (sym k.inverts.ensures ∙ k.if-inverts.false)

@@ -1,0 +1,20 @@
+use Rattle.octets_slice.proofs.Laws.{copied_fits}
+use lib.ListN.{length}
+use Prim.Native.Nat.{◌-◌}
+use mathlib.Core.Path.{◌∙◌, refl}
+use Rattle.aes_spec.specs.Model.{one_way}
+use Rattle.wrap.proofs.Building.{opened_by, opened_size}
+use native.Mathlib.Omega.{arith}
+use borrow.Author.Rules.{rules}
+use Rattle.wrap.proofs.opened.Goals as goal
+
+pub returns : goal.returns
+returns c =
+    let u = c.unpasses in
+    let cp = c.copy in
+    let s = c in
+    let a = s.args in
+    let k = one_way a.words.now a.rounds in record {
+      registers = opened_by k a.given.now s.requires.0 s.requires.1 s.requires.2 (length a.given.now - 0) (omega arith) _ _ _ (cp.ensures ∙ copied_fits a.given.now 0 _ (omega (arith, s.requires.1))) u.ensures u.auto.w refl;
+      size = opened_size k a.given.now s.requires.0 s.requires.1 s.requires.2 (length a.given.now - 0) (omega arith) _ _ _ (cp.ensures ∙ copied_fits a.given.now 0 _ (omega (arith, s.requires.1))) u.ensures u.auto.w refl;
+    }

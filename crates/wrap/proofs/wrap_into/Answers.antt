@@ -1,0 +1,18 @@
+use Rattle.octets_slice.proofs.Laws.{copied_fits}
+use lib.ListN.{length}
+use Prim.Native.Nat.{◌+◌, ◌-◌}
+use mathlib.Core.Path.{◌∙◌, refl}
+use Rattle.aes_spec.specs.Cipher.{standard}
+use Rattle.wrap.proofs.Building.{wrapped_over}
+use native.Mathlib.Omega.{arith}
+use borrow.Author.Rules.{rules}
+use Rattle.wrap.proofs.wrap_into.Goals as goal
+
+pub returns : goal.returns
+returns c =
+    let ps = c.passes in
+    let c2 = c.copy-2 in
+    let c1 = c.copy in
+    let s = c in
+    let a = s.args in
+    wrapped_over (standard a.words.now a.rounds) a.given.now a.output.now s.requires.0 s.requires.1 s.requires.2 (length a.given.now + 8 - 0) (omega arith) _ _ _ _ (c1.ensures ∙ copied_fits _ 0 a.output.now (omega (arith, s.requires.3))) (c2.ensures ∙ copied_fits a.given.now 8 _ (omega (arith, s.requires.3, c1.auto.w))) ps.ensures ps.auto.w refl

@@ -1,0 +1,13 @@
+use mathlib.Core.Path.{◌≡◌, refl, sym, ap, ◌∙◌}
+use Prim.Native.Nat.{ℕ, ◌+◌, ◌*◌, ◌-◌, ◌≤◌}
+use lib.ListN.{length}
+use Rattle.aes_spec.specs.Cipher.{standard}
+use Rattle.wrap_spec.specs.Wrap.{step, pass}
+use Rattle.wrap_registers.proofs.Sizes.{product_fits}
+use Rattle.wrap_spec.proofs.Passing.{pass_none, pass_more}
+use borrow.Author.Rules.{rules}
+use native.Mathlib.Omega.{arith}
+use Rattle.wrap_registers.proofs.pass.Given as goal
+
+abbrev pub invariant-loop-m : goal.invariant-loop-m
+invariant-loop-m l = (l.m ≤ l.n) × (length l.w ≡ length l.initial.w) × (l.w ≡ pass (standard l.words l.rounds) l.n l.j l.m l.initial.w)

@@ -1,0 +1,45 @@
+use mathlib.Core.Path.{◌≡◌, refl, sym, ap, ◌∙◌}
+use mathlib.Core.Bool.{true}
+use Prim.Native.Nat.{ℕ, ◌-◌, ◌/◌, ◌≤◌}
+use lib.ListN.{length}
+use borrow.Author.Tests.{not-true, not-false}
+use Rattle.aes_spec.specs.Cipher.{standard}
+use Rattle.wrap_spec.specs.Wrap.{pass, passes}
+use Rattle.wrap_answer.specs.Answers.{wrapped_size_fits}
+use Rattle.wrap_answer.proofs.Sizes.{wrapped_size_parts}
+use Rattle.wrap_registers.proofs.Sizes.{passed_right, passed_wrong}
+use Rattle.wrap_spec.proofs.Passing.{passes_none, passes_more}
+use borrow.Author.Rules.{rules}
+use native.Mathlib.Omega.{arith}
+use Rattle.wrap_registers.proofs.passes.Goals as goal
+
+pub returns-then-not-wrapped_size_fits : goal.returns-then-not-wrapped_size_fits
+returns-then-not-wrapped_size_fits c =
+    let a = c.args in
+    passed_wrong (standard a.words.now a.rounds) a.w.now (sym c.wrapped_size_fits.ensures ∙ c.if-not-wrapped_size_fits.true)
+
+pub loop-j-init : goal.loop-j-init
+loop-j-init c =
+    let a = c.args in
+    (omega arith, refl, passes_none (standard a.words.now a.rounds) (length a.w.now / 8 - 1) a.w.now)
+
+pub loop-j-preserved : goal.loop-j-preserved
+loop-j-preserved c =
+    let l = c.loop-j in
+    let a = c.args in
+    let k = standard a.words.now a.rounds in
+    let n = length a.w.now / 8 - 1 in (
+      omega arith,
+      search rules,
+      c.pass.ensures ∙ ap (pass k n l.j n) l.invariant.2 ∙ sym (passes_more k n a.w.now l.j),
+    )
+
+pub returns : goal.returns
+returns c =
+    let l = c.loop-j in
+    let i = c in
+    let a = i.args in
+    let k = standard a.words.now a.rounds in
+    let n = length a.w.now / 8 - 1 in
+    let e : l.j ≡ 6 = omega arith in
+    l.invariant.2 ∙ ap (λ (x : ℕ). passes k n x a.w.now) e ∙ passed_right k a.w.now (sym i.wrapped_size_fits.ensures ∙ i.if-not-wrapped_size_fits.false)

@@ -1,0 +1,16 @@
+use mathlib.Core.Path.{◌≡◌, refl, sym, ap, ◌∙◌}
+use Prim.Native.Nat.{ℕ, ◌*◌, ◌-◌, ◌≤◌}
+use lib.ListN.{length}
+use Rattle.aes_spec.specs.Model.{one_way}
+use Rattle.wrap_spec.specs.Wrap.{unpass}
+use Rattle.wrap_registers.proofs.Sizes.{product_fits}
+use Rattle.wrap_spec.proofs.Passing.{unpass_none, unpass_more}
+use borrow.Author.Rules.{rules}
+use native.Mathlib.Omega.{arith}
+use Rattle.wrap_registers.proofs.unpass.Given as goal
+
+abbrev pub invariant-loop-i : goal.invariant-loop-i
+invariant-loop-i l = (l.i ≤ l.n) × (length l.w ≡ length l.initial.w) × (unpass (one_way l.words l.rounds) l.n l.j l.i l.w ≡ unpass (one_way l.words l.rounds) l.n l.j l.n l.initial.w)
+
+abbrev pub decreases-loop-i : goal.decreases-loop-i
+decreases-loop-i l = l.i

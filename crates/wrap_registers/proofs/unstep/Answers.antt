@@ -1,0 +1,17 @@
+use mathlib.Core.Path.{◌∙◌}
+use Rattle.aes_spec.specs.Model.{one_way}
+use Rattle.wrap_spec.proofs.Passing.{unstep_by}
+use native.Mathlib.Omega.{arith}
+use borrow.Author.Rules.{rules}
+use Rattle.wrap_registers.proofs.unstep.Goals as goal
+
+pub returns : goal.returns
+returns c =
+    let b = c.put_back in
+    let d = c.decrypt_block-made in
+    let x = c.counter_added-given in
+    let p = c.pair in
+    let s = c in
+    let a = s.args in
+    b.ensures
+    ∙ unstep_by (one_way a.words.now a.rounds) a.t a.i a.w.now p.result x.result d.result (omega (arith, s.requires.1)) p.ensures x.ensures d.ensures
