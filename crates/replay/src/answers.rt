@@ -3,9 +3,8 @@ use aesavs::Verdict;
 use aesavs_line::Field;
 
 fn number(n: u64, text: &mut [u8], at: usize) -> usize {
-    let mut digits = [0u8; 20];
-    let k = io::decimal(n, &mut digits);
-    text_put::put(&digits[..k], text, at)
+    let mut digits = itoa::Buffer::new();
+    text_put::put(digits.format(n).as_bytes(), text, at)
 }
 
 // A COUNT, and 0 or the field that differs first.

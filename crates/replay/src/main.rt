@@ -4,13 +4,14 @@
 #![tactic(auto)]
 
 mod answers;
+mod file;
 mod record;
-mod streams;
 
 ghost use Rattle.std.specs.Prelude.{◌<◌, length};
 
 use record::{Fields, Held, Text};
-use streams::Source;
+use std::env::Env;
+use std::io::{self, Read};
 use text_lines::{Place, gather, has_begun, no_line};
 
 // The longest line, with a carriage return after it.
@@ -19,7 +20,7 @@ type Line = [u8; 4097];
 // The answers that wait; one has at most 32 bytes.
 type Answers = [u8; 8192];
 
-#[derive(Drop)]
+#[derive(Clone, Copy)]
 pub struct Fed {
     pub held: Held,
     pub place: Place,
@@ -28,14 +29,14 @@ pub struct Fed {
 
 // What comes after a turn of reading: another; nothing, because the input ended or a line was refused; or nothing, because a read or a
 // write failed, which was reported.
-#[derive(Drop)]
+#[derive(Clone, Copy)]
 pub enum After {
     Another,
     Ended,
     Failed,
 }
 
-#[derive(Drop)]
+#[derive(Clone, Copy)]
 pub struct Turned {
     pub held: Held,
     pub place: Place,
@@ -113,10 +114,10 @@ fn feed(
     Fed { held, place, at }
 }
 
-fn written(f: Fed, after: After, text: &Answers) -> Turned {
+fn written(rt: &HostRuntime, f: Fed, after: After, text: &Answers) -> Turned {
     let held = f.held;
     let place = f.place;
-    if !streams::is_written(octets_slice::part(text, 0, held.end)) {
+    if !file::is_written(rt, octets_slice::part(text, 0, held.end)) {
         return Turned {
             held,
             place,
@@ -139,6 +140,7 @@ fn after_refusal(refused: bool, after: After) -> After {
 
 // Nothing more came: at the end of the input a line that has begun counts, as if a line feed followed it.
 fn last_turn(
+    rt: &HostRuntime,
     held: Held,
     p: Place,
     line: &mut Line,
@@ -151,6 +153,7 @@ fn last_turn(
     let place = f.place;
     let at = f.at;
     written(
+        rt,
         Fed {
             held: ended(h, text),
             place,
@@ -187,46 +190,44 @@ fn ended(h: Held, text: &mut Answers) -> Held {
 }
 
 // Reads once and answers the lines that came whole.
-fn turn(
+fn turn<R: Read>(
+    rt: &HostRuntime,
     held: Held,
     p: Place,
-    fd: i32,
+    input: &mut R,
     line: &mut Line,
     fields: &mut Fields,
     output: &mut Text,
     text: &mut Answers,
 ) -> Turned {
     let mut chunk = [0u8; 4096];
-    let got = libc::read(fd, &mut chunk);
-    if got < 0 {
-        streams::read_failed();
-        return Turned {
+    match file::read_part(rt, input, &mut chunk) {
+        Ok(0) => last_turn(rt, held, p, line, fields, output, text),
+        Ok(n) => written(
+            rt,
+            feed(held, p, &chunk[..n], line, fields, output, text),
+            After::Another,
+            text,
+        ),
+        Err(_) => Turned {
             held,
             place: p,
             after: After::Failed,
-        };
+        },
     }
-    if got == 0 {
-        return last_turn(held, p, line, fields, output, text);
-    }
-    let n = io::count(got, &chunk);
-    written(
-        feed(held, p, &chunk[..n], line, fields, output, text),
-        After::Another,
-        text,
-    )
 }
 
 // The run as a line before those of the file, if `dock` gave it.
 fn opened(
+    rt: &HostRuntime,
     held: Held,
-    s: Source,
+    told: bool,
     line: &mut Line,
     fields: &mut Fields,
     output: &mut Text,
     text: &mut Answers,
 ) -> Fed {
-    if !s.told {
+    if !told {
         return Fed {
             held,
             place: no_line(),
@@ -234,11 +235,9 @@ fn opened(
         };
     }
     let mut word = [0u8; 8];
-    let n = os::arg(1, &mut word);
+    let n = rt.arg(1, &mut word).unwrap_or(0);
     let f = feed(held, no_line(), &word[..n], line, fields, output, text);
-    let h = f.held;
-    let place = f.place;
-    feed(h, place, b"\n", line, fields, output, text)
+    feed(f.held, f.place, b"\n", line, fields, output, text)
 }
 
 fn is_end(after: After) -> bool {
@@ -256,53 +255,74 @@ fn agreed(h: Held) -> bool {
     if h.records { h.agree } else { false }
 }
 
-fn said(h: Held, s: Source, after: After) {
+fn said(rt: &HostRuntime, h: Held, told: bool, after: After) {
     if !is_end(after) {
         return;
     }
+    if !told {
+        return;
+    }
     if agreed(h) {
-        streams::report(s);
+        streams::report(rt, b"agrees\n");
     }
     if h.refused {
-        if s.told {
-            let standing = h.standing;
-            streams::say_line(standing.lines);
-        }
+        file::say_line(rt, h.standing.lines);
     }
 }
 
-// Nothing says that the input ends, so the turns are counted down from a number that no run uses up.
-fn replay_file(
-    s: Source,
+// `told` says whether `dock` started the program and waits for its word. Nothing says that the input ends, so the turns are counted, up
+// to a number that no run reaches.
+fn replay<R: Read>(
+    rt: &HostRuntime,
+    input: &mut R,
+    told: bool,
     line: &mut Line,
     fields: &mut Fields,
     output: &mut Text,
     text: &mut Answers,
 ) {
-    let f = opened(Held::new(), s, line, fields, output, text);
+    let f = opened(rt, Held::new(), told, line, fields, output, text);
     let mut held = f.held;
     let mut place = f.place;
-    let mut turns = u64::MAX;
-    while turns > 0 {
-        let t = turn(held, place, s.fd, line, fields, output, text);
+    for _ in 0..u64::MAX {
+        let t = turn(rt, held, place, input, line, fields, output, text);
         held = t.held;
         place = t.place;
-        let after = t.after;
-        let After::Another = after else {
-            said(held, s, after);
+        let After::Another = t.after else {
+            said(rt, held, told, t.after);
             return;
         };
-        turns -= 1;
     }
 }
 
-fn main() {
+fn replay_from<R: Read>(rt: &HostRuntime, input: &mut R, told: bool) {
     let mut line = [0u8; 4097];
     let mut fields = [0u8; 4144];
     let mut output = [0u8; 2048];
     let mut text = [0u8; 8192];
-    let s = streams::from_where();
-    if s.fd >= 0 {
-        replay_file(s, &mut line, &mut fields, &mut output, &mut text);
+    replay(
+        rt,
+        input,
+        told,
+        &mut line,
+        &mut fields,
+        &mut output,
+        &mut text,
+    );
+}
+
+// Standard input has the run and then the file. `dock` gives the run as the first word and the file's name as the second.
+fn main(rt: HostRuntime) {
+    if !streams::is_given(&rt, 2) {
+        replay_from(&rt, &mut rt.stdin(), false);
+        return;
+    }
+    let named = streams::opened(
+        &rt,
+        2,
+        "dock: the file cannot be opened, check its permissions",
+    );
+    if let Some(mut input) = named {
+        replay_from(&rt, &mut input, true);
     }
 }

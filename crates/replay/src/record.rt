@@ -14,7 +14,7 @@ pub type Text = [u8; 2048];
 
 // What is held from line to line: how far the reading has come, what the next record of the chain starts from, where the answers that wait
 // end, and whether all records so far agreed, and there was one.
-#[derive(Drop)]
+#[derive(Clone, Copy)]
 pub struct Held {
     pub standing: Standing,
     pub own: Link,
