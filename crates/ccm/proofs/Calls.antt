@@ -1,11 +1,9 @@
 -- From what the parts of a call give to what the call is to give. Assumes nothing.
 use mathlib.Core.Path.{◌≡◌, refl, sym, ap, ◌∙◌}
 use mathlib.Core.Bool.{Bool, true, false, cond}
-use mathlib.Core.List.{List, [], ◌∷◌}
+use mathlib.Core.List.{List}
 use Prim.Native.Nat.{ℕ, ◌+◌, ◌-◌, ◌≤◌}
 use native.Mathlib.Omega.{arith}
-use types.Run.{OneOf, miss}
-use denote.Enum.Declared.{tag_of}
 use borrow.Author.Tests.{eqb-true, ltb-false}
 use lib.Dec.{eqb, ltb}
 use lib.ListN.{length}
@@ -23,30 +21,26 @@ use Rattle.ccm_answer.specs.Answers.{in_profile, sealed_in_profile, ccm_ruled}
 use Rattle.ccm_answer.proofs.Sizes.{profile_parts, sealed_parts}
 use Rattle.ccm_answer.specs.declared.CcmAnswer.{CcmAnswer}
 use Rattle.ccm_answer.specs.declared.CcmAnswer.TheVariants.{CcmDone, CcmKey, CcmSize, CcmRoom, WrongTag}
-use Rattle.ccm_answer.specs.contracts.CcmAnswer.{the_type}
 use Rattle.ccm_spec.proofs.Exactly.{streamed_length}
 use Rattle.ccm.specs.Calls.{seal_answer, seal_output, verdict, open_answer, open_output}
 use Rattle.ccm.specs.Model.{sealed_over, body, right, opened_over}
 use Rattle.ccm.specs.Model as model
 use Rattle.ccm.proofs.Agree.{sealed-over, opened_is, right_genuine}
 
--- the tag of an answer that is not the first case
+-- an answer that is not the first case
 abbrev pub Refused : CcmAnswer → Type 0
-Refused a = OneOf (1 ∷ 2 ∷ 3 ∷ 4 ∷ []) (tag_of the_type a)
-
-not_done : (a : CcmAnswer) → Refused a → a ≡ CcmDone → ⊥
-not_done a h e = miss (1 ∷ 2 ∷ 3 ∷ 4 ∷ []) 0 tt (rw e at h)
+Refused a = a ≡ CcmDone → ⊥
 
 -- an answer that is not the first case leaves the output as it was
 pub seal_kept : (a : CcmAnswer) (key nonce x p out : List ℕ) → Refused a → out ≡ seal_output a key nonce x p out
-seal_kept CcmDone key nonce x p out h = absurd (not_done CcmDone h refl)
+seal_kept CcmDone key nonce x p out h = absurd (h refl)
 seal_kept CcmKey key nonce x p out h = refl
 seal_kept CcmSize key nonce x p out h = refl
 seal_kept CcmRoom key nonce x p out h = refl
 seal_kept WrongTag key nonce x p out h = refl
 
 pub open_kept : (a : CcmAnswer) (key nonce x p out : List ℕ) → Refused a → out ≡ open_output a key nonce x p out
-open_kept CcmDone key nonce x p out h = absurd (not_done CcmDone h refl)
+open_kept CcmDone key nonce x p out h = absurd (h refl)
 open_kept CcmKey key nonce x p out h = refl
 open_kept CcmSize key nonce x p out h = refl
 open_kept CcmRoom key nonce x p out h = refl
@@ -83,7 +77,7 @@ module _ (key : ℕ) (size : Bool) (result out : ℕ) where
   ruled_refused z a e h = go (eqb key 0) size (ltb out result) e
     where
       go : (k s r : Bool) → a ≡ cond k (cond s (cond r CcmRoom CcmDone) CcmSize) CcmKey → a ≡ cond k (cond s (cond r CcmRoom z) CcmSize) CcmKey
-      go true true false f = absurd (not_done a h f)
+      go true true false f = absurd (h f)
       go true true true f = f
       go true false r f = f
       go false s r f = f
