@@ -89,6 +89,9 @@ pub product_zero : (a : ℕ) → a • 0 ≡ 0
 unfolding ◌•◌ product_within
 product_zero a = refl
 
+pub zero_factor : (a b : ℕ) → b ≡ 0 → a • b ≡ 0
+zero_factor a b e = rw e (product_zero a)
+
 pub product_even : (a b : ℕ) → b % 2 ≡ 0 → a • b ≡ x_times (a • (b / 2))
 product_even a b e = product_step a b ∙ rw (eq-eqb (b % 2) 0 e)
 

@@ -15,6 +15,7 @@ pub fn double(a: u8) -> u8
 }
 
 // Looked up, not computed from the digits of b as in the definition: a loader has little stack.
+#[tactic(auto, using(crate::proofs::Laws::zero_factor))]
 pub fn product(a: u8, b: u8) -> u8
     ensures { result ≡ a • b }
 {
