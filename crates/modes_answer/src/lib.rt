@@ -33,6 +33,7 @@ impl ModeAnswer {
 }
 
 // The answer, from that for the key and the lengths of the rest.
+#[tactic(auto, unfolding(crate::specs::Answers::judged))]
 pub fn judge(
     key: KeyAnswer,
     operation: Operation,
@@ -75,6 +76,7 @@ pub fn any_length(operation: Operation) -> bool
 }
 
 // The bytes past whole pieces, which OFB alone takes.
+#[tactic(auto, unfolding(crate::specs::Answers::left_over))]
 fn left_over(operation: Operation, input: usize) -> usize
     ensures { result ≡ left_over operation input }
 {
