@@ -1,14 +1,13 @@
 -- Wide blocks as columns: loaded, stored and summed. Assumes nothing.
-use mathlib.Core.Path.{◌≡◌, refl, sym, ap, ap₂, ◌∙◌}
+use mathlib.Core.Path.{◌≡◌, refl, sym, ap, ◌∙◌}
 use mathlib.Core.List.{List, [], ◌∷◌}
 use Prim.Native.Nat.{ℕ, zero, suc, ◌+◌, ◌*◌, ◌/◌, ◌%◌, ◌≤◌, ◌<◌}
-use native.Mathlib.Nat.{zero-mul, mul-zero}
 use native.Mathlib.Numerals.{add-one}
 use native.Mathlib.Omega.{arith}
 use lib.ListN.{length, get_or, set, take, drop, length-drop}
 use lib.Seq.{paste, paste-suc, get_or-take, get_or-drop, length-take-le}
-use Rattle.octets.specs.Octets.{xor, tabulate, Bytes}
-use Rattle.octets.specs.Words.{word, byte, word_at, bytes_of}
+use Rattle.octets.specs.Octets.{xor, Bytes}
+use Rattle.octets.specs.Words.{byte, word_at, bytes_of}
 use Rattle.octets.specs.Blocks.{◌⊕◌}
 use Rattle.octets.proofs.Fill.{is_tabulate}
 use Rattle.octets.proofs.Words.{byte_xor, byte0_word, byte1_word, byte2_word, byte3_word}

@@ -1,26 +1,22 @@
 -- From what the parts of a call give to what the call is to give. Assumes nothing.
-use mathlib.Core.Path.{◌≡◌, refl, sym, ap, ap₂, subst, ◌∙◌}
+use mathlib.Core.Path.{◌≡◌, refl, sym, ap, ap₂, ◌∙◌}
 use mathlib.Core.Bool.{Bool, true, false, cond}
-use mathlib.Core.List.{List, [], ◌∷◌, ◌++◌}
-use Prim.Native.Nat.{ℕ, zero, suc, ◌+◌, ◌*◌, ◌/◌, ◌%◌, ◌≤◌, ◌<◌}
+use mathlib.Core.List.{List, ◌++◌}
+use Prim.Native.Nat.{ℕ, zero, suc, ◌*◌, ◌/◌, ◌%◌, ◌≤◌, ◌<◌}
 use native.Mathlib.Nat.{div-add-mod'}
 use native.Mathlib.Omega.{arith}
 use borrow.Author.Tests.{ne_eqb, lt-ltb, le-ltb}
-use types.Run.{OneOf, miss}
-use denote.Enum.Declared.{tag_of}
 use lib.Dec.{eqb, ltb}
 use lib.ListN.{length, take, drop, replicate}
 use lib.Seq.{take_all}
-use Rattle.octets.specs.Octets.{Bytes, Octets, over}
-use Rattle.octets.specs.Blocks.{BlockCipher, Lawful}
+use Rattle.octets.specs.Octets.{Bytes, Octets}
+use Rattle.octets.specs.Blocks.{BlockCipher}
 use Rattle.aes_sbox.specs.Sbox.{inv_s_box}
 use Rattle.aes_sbox.proofs.Laws.{inv_s_box_lt}
-use Rattle.aes_spec.specs.Cipher.{inv_cipher}
-use Rattle.aes_spec.specs.Model.{equivalent_words, eq_inv_cipher}
+use Rattle.aes_spec.specs.Model.{equivalent_words}
 use Rattle.aes_spec.proofs.Equivalent.{eq-inv-cipher, words_back_of}
 use Rattle.modes_spec.specs.Pieces.{Machine, output_of, after, ran, piece_count}
-use Rattle.modes_spec.specs.Modes.{machine, iv_length, any_length, chains, Unless, moded, handed_on}
-use Rattle.modes_spec.specs.declared.Operation.{Operation}
+use Rattle.modes_spec.specs.Modes.{machine, iv_length, any_length, chains, Unless, moded}
 use Rattle.modes_spec.specs.declared.Operation.TheVariants.{EcbEncrypt, EcbDecrypt, CbcEncrypt, CbcDecrypt}
 use Rattle.modes_spec.proofs.Pieces.{count_whole}
 use Rattle.modes_spec.proofs.Undo.{ChainOf, moded_length}
@@ -28,9 +24,8 @@ use Rattle.modes_spec.proofs.Same.{moded_same, handed_same}
 use Rattle.modes_answer.specs.Answers.{mode_number, judged}
 use Rattle.modes_answer.specs.declared.ModeAnswer.{ModeAnswer}
 use Rattle.modes_answer.specs.declared.ModeAnswer.TheVariants.{Done, BadKey, BadIv, NotPieces, OutputShort}
-use Rattle.modes_answer.specs.contracts.ModeAnswer.{the_type}
 use Rattle.modes_answer.proofs.Answers.{met}
-use Rattle.rijndael_spec.specs.Rijndael.{shape_of, block_size, key_words, rounds_of, rijndael, takes_key, wide_words, wide_rounds, wide_round_count, wide_decrypt}
+use Rattle.rijndael_spec.specs.Rijndael.{shape_of, block_size, key_words, rounds_of, rijndael, takes_key, wide_words, wide_rounds, wide_decrypt}
 use Rattle.rijndael_spec.specs.Model.{wide_inverse}
 use Rattle.rijndael_spec.specs.Operations.{mode_of}
 use Rattle.rijndael_spec.specs.declared.Width.{Width}
@@ -46,16 +41,16 @@ use Rattle.rijndael.specs.declared.Applied32.{Applied32}
 -- ---- an answer that is not the first case
 
 pub refused_keeps : (a : ModeAnswer) (v : Width) (o : WideOperation) (key iv inp out : List ℕ)
-    → OneOf (1 ∷ 2 ∷ 3 ∷ 4 ∷ []) (tag_of the_type a) → wide_output a v o key iv inp out ≡ out
-refused_keeps Done v o key iv inp out h = absurd (miss (1 ∷ 2 ∷ 3 ∷ 4 ∷ []) 0 tt h)
+    → (a ≡ Done → ⊥) → wide_output a v o key iv inp out ≡ out
+refused_keeps Done v o key iv inp out h = absurd (h refl)
 refused_keeps BadKey v o key iv inp out h = refl
 refused_keeps BadIv v o key iv inp out h = refl
 refused_keeps NotPieces v o key iv inp out h = refl
 refused_keeps OutputShort v o key iv inp out h = refl
 
 pub refused_zeros : (a : ModeAnswer) (v : Width) (o : WideOperation) (key iv inp : List ℕ)
-    → OneOf (1 ∷ 2 ∷ 3 ∷ 4 ∷ []) (tag_of the_type a) → wide_next a v o key iv inp ≡ replicate (block_size v) 0
-refused_zeros Done v o key iv inp h = absurd (miss (1 ∷ 2 ∷ 3 ∷ 4 ∷ []) 0 tt h)
+    → (a ≡ Done → ⊥) → wide_next a v o key iv inp ≡ replicate (block_size v) 0
+refused_zeros Done v o key iv inp h = absurd (h refl)
 refused_zeros BadKey v o key iv inp h = refl
 refused_zeros BadIv v o key iv inp h = refl
 refused_zeros NotPieces v o key iv inp h = refl

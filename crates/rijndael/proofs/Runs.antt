@@ -6,7 +6,7 @@ use native.Mathlib.Nat.{suc-mul, le-div_iff_mul-le}
 use native.Mathlib.Numerals.{add-one}
 use native.Mathlib.Omega.{arith}
 use lib.ListN.{length, take, drop, length-append}
-use lib.Seq.{take_at, drop_at, drop-drop, take_all, paste}
+use lib.Seq.{take_at, drop_at, drop-drop, paste}
 use Rattle.modes_spec.specs.Pieces.{Machine, output_of, after, piece}
 use Rattle.modes_spec.proofs.Pieces.{after_more, made_more}
 

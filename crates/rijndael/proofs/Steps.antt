@@ -1,8 +1,8 @@
 -- A block through the rounds, in bytes. Assumes nothing.
-use mathlib.Core.Path.{◌≡◌, refl, sym, ap, ◌∙◌}
+use mathlib.Core.Path.{◌≡◌, refl, ap, ◌∙◌}
 use mathlib.Core.Bool.{Bool, true, false, cond}
 use mathlib.Core.List.{List}
-use Prim.Native.Nat.{ℕ, ◌-◌, ◌*◌, ◌≤◌, ◌<◌}
+use Prim.Native.Nat.{ℕ, ◌-◌, ◌<◌}
 use native.Mathlib.Omega.{arith}
 use lib.ListN.{length, take, replicate, length-replicate}
 use lib.Seq.{take_at, length-take-le}
@@ -14,7 +14,7 @@ use Rattle.rijndael_spec.specs.Rijndael.{shape_of, block_size, wide_round_count,
 use Rattle.rijndael_spec.specs.declared.Width.{Width}
 use Rattle.rijndael_spec.specs.declared.Width.TheVariants.{Six, Eight}
 use Rattle.rijndael_spec.proofs.Laws.{regular, wide-round-count}
-use Rattle.rijndael_model.specs.Model.{back, way_shape, entry_of, block_of, looked, passed}
+use Rattle.rijndael_model.specs.Model.{back, entry_of, block_of, looked, passed}
 use Rattle.rijndael_model.specs.declared.Way.{Way}
 use Rattle.rijndael_model.specs.declared.Way.TheVariants.{Forth, Back}
 use Rattle.rijndael_model.proofs.Columns.{words_octets, added_length}
