@@ -1,0 +1,5 @@
+use borrow.Author.Rules.{rules}
+use Rattle.dock_turn.proofs.turn_answer.Goals as goal
+
+pub returns : goal.returns
+returns c = rw c.how_stopped-told.ensures
