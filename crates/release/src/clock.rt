@@ -1,44 +1,37 @@
-// A line of progress on the terminal, where `dock` lends it one as descriptor 5 and the work takes longer than a second.
-use crate::{input, put};
+// A line of progress on the terminal, where `dock` lends it one and the work takes longer than a second.
+use crate::put;
+use std::fs::File;
+use std::io::Write;
+use std::time;
 
-const TERMINAL: i32 = 5;
-
-// What there is to do and when that began, whether there is a terminal, whether a line stands there, and when it was written.
+// What there is to do and when that began, the terminal if there is one, whether a line stands there, and when it was written.
 #[derive(Drop)]
 pub struct Clock {
     pub total: u64,
-    pub begun: usize,
-    pub watched: bool,
+    pub begun: u64,
+    pub terminal: Option<File>,
     pub shown: bool,
-    pub last: usize,
+    pub last: u64,
 }
 
-fn now() -> usize {
-    let mut t: i64 = 0;
-    input::natural(libc::time(&mut t))
+// Whole seconds since 1970, or 0 where that is not known.
+fn now(rt: &impl time::Clock) -> u64 {
+    match rt.since_1970() {
+        Ok(t) => t.as_secs(),
+        Err(_) => 0,
+    }
 }
 
 // `total` is the number of blocks that there are to do.
-pub fn start(total: u64) -> Clock {
-    let begun = now();
+pub fn start(rt: &impl time::Clock, terminal: Option<File>, total: u64) -> Clock {
+    let begun = now(rt);
     Clock {
         total,
         begun,
-        watched: libc::isatty(TERMINAL) == 1,
+        terminal,
         shown: false,
         last: begun,
     }
-}
-
-// Whole seconds are counted, so a difference of one may be a moment; from the first line on it is a second.
-fn is_due(c: Clock, t: usize) -> bool {
-    if t <= c.last {
-        return false;
-    }
-    if c.shown {
-        return true;
-    }
-    1 < t - c.last
 }
 
 // No file has 2^56 blocks, so nothing is cut off.
@@ -47,21 +40,6 @@ fn percent(blocks: u64, total: u64) -> u64 {
         return 100;
     }
     blocks % 72057594037927936 * 100 / total
-}
-
-// The seconds that the rest takes at the speed so far, or 0 where that is not known.
-fn seconds_left(c: Clock, blocks: u64, t: usize) -> u64 {
-    if t <= c.begun {
-        return 0;
-    }
-    let speed = blocks / (t - c.begun) as u64;
-    if speed == 0 {
-        return 0;
-    }
-    if c.total <= blocks {
-        return 0;
-    }
-    std::num::wrapping_add_u64((c.total - blocks - 1) / speed, 1)
 }
 
 fn put_time(seconds: u64, text: &mut [u8], at: usize) -> usize {
@@ -76,46 +54,76 @@ fn put_time(seconds: u64, text: &mut [u8], at: usize) -> usize {
     text_put::put(b" min left", text, a)
 }
 
-fn put_line(c: Clock, blocks: u64, text: &mut [u8]) -> usize {
-    let a = put::number(b"\r", blocks, text, 0);
-    let b = put::number(b" of ", c.total, text, a);
-    let d = put::number(b" blocks, ", percent(blocks, c.total), text, b);
-    text_put::put(b" %", text, d)
+fn write_to(mut terminal: &File, bytes: &[u8]) {
+    let _ = terminal.write_all(bytes);
 }
 
-// Spaces cover what is left of a longer line before it.
-fn write_line(c: Clock, blocks: u64, t: usize) {
-    let mut text = [0u8; 160];
-    let a = put_line(c, blocks, &mut text);
-    let b = put_time(seconds_left(c, blocks, t), &mut text, a);
-    let end = text_put::put(b"        ", &mut text, b);
-    io::write_all(TERMINAL, octets_slice::part(&text, 0, end));
-}
+impl Clock {
+    // Whole seconds are counted, so a difference of one may be a moment; from the first line on it is a second.
+    fn is_due(&self, t: u64) -> bool {
+        if t <= self.last {
+            return false;
+        }
+        if self.shown {
+            return true;
+        }
+        1 < t - self.last
+    }
 
-pub fn tick(c: Clock, blocks: u64) -> Clock {
-    if !c.watched {
-        return c;
+    // The seconds that the rest takes at the speed so far, or 0 where that is not known.
+    fn seconds_left(&self, blocks: u64, t: u64) -> u64 {
+        if t <= self.begun {
+            return 0;
+        }
+        let speed = blocks / (t - self.begun);
+        if speed == 0 {
+            return 0;
+        }
+        if self.total <= blocks {
+            return 0;
+        }
+        ((self.total - blocks - 1) / speed).saturating_add(1)
     }
-    let t = now();
-    if !is_due(c, t) {
-        return c;
-    }
-    write_line(c, blocks, t);
-    Clock {
-        total: c.total,
-        begun: c.begun,
-        watched: true,
-        shown: true,
-        last: t,
-    }
-}
 
-// The line is wiped out, so that what is said next stands alone.
-pub fn stop(c: Clock) {
-    if c.shown {
-        io::write_all(
-            TERMINAL,
-            b"\r                                                            \r",
-        );
+    fn put_line(&self, blocks: u64, text: &mut [u8]) -> usize {
+        let a = put::number(b"\r", blocks, text, 0);
+        let b = put::number(b" of ", self.total, text, a);
+        let d = put::number(b" blocks, ", percent(blocks, self.total), text, b);
+        text_put::put(b" %", text, d)
+    }
+
+    // Spaces cover what is left of a longer line before it.
+    fn write_line(&self, terminal: &File, blocks: u64, t: u64) {
+        let mut text = [0u8; 160];
+        let a = self.put_line(blocks, &mut text);
+        let b = put_time(self.seconds_left(blocks, t), &mut text, a);
+        let end = text_put::put(b"        ", &mut text, b);
+        write_to(terminal, octets_slice::part(&text, 0, end));
+    }
+
+    pub fn tick(&mut self, rt: &impl time::Clock, blocks: u64) {
+        let Some(terminal) = &self.terminal else {
+            return;
+        };
+        let t = now(rt);
+        if !self.is_due(t) {
+            return;
+        }
+        self.write_line(terminal, blocks, t);
+        self.shown = true;
+        self.last = t;
+    }
+
+    // The line is wiped out, so that what is said next stands alone.
+    pub fn stop(&self) {
+        if !self.shown {
+            return;
+        }
+        if let Some(terminal) = &self.terminal {
+            write_to(
+                terminal,
+                b"\r                                                            \r",
+            );
+        }
     }
 }

@@ -8,7 +8,7 @@ use lines::Text;
 use text_put::put;
 
 // A block at its place and its header; and, where there are keys, 0 or the number that a reader refuses the block with.
-#[derive(Drop)]
+#[derive(Clone, Copy)]
 pub struct Seen {
     pub place: u64,
     pub head: Head,
@@ -17,7 +17,7 @@ pub struct Seen {
 }
 
 // What is asked for: JSON or words, and of one block or of all.
-#[derive(Drop)]
+#[derive(Clone, Copy)]
 pub struct Style {
     pub json: bool,
     pub one: bool,

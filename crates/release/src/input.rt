@@ -1,115 +1,109 @@
 // What is read: the keys, and the input a piece at a time. A read that fails is told from an end.
-ghost use Rattle.std.specs.Prelude.{◌-◌, ◌≤◌, length};
+ghost use Rattle.std.specs.Prelude.{◌≤◌, length, IfOk};
 
 use crate::tell;
 use octets_slice::smaller;
+use std::env::Env;
+use std::fs::OpenOptions;
+use std::io::{self, Error, ErrorKind, Read, Seek, SeekFrom};
+use std::rt::Files;
 
 // The arguments that name files.
 pub const KEYS: usize = 2;
 
 pub const INPUT: usize = 3;
 
-// How many bytes were read, and whether a read failed, which has been told.
-#[derive(Drop)]
-pub struct Got {
-    pub n: usize,
-    pub failed: bool,
-}
-
 // Whether argument i is that word, of up to 8 bytes.
-pub fn is_word(i: usize, word: &[u8]) -> bool {
+pub fn is_word(rt: &impl Env, i: usize, word: &[u8]) -> bool {
     let mut got = [0u8; 8];
-    let n = os::arg(i, &mut got);
-    check::same(&got[..n], word)
-}
-
-// Opens the file that argument i names, or tells why not and answers a number below 0. No name is written to the terminal: it may
-// hold bytes that the terminal obeys.
-pub fn open(i: usize) -> i32 {
-    let mut path = io::buffer();
-    let n = os::arg(i, &mut path);
-    let fd = os::open_read(&path[..n]);
-    if fd < 0 {
-        cannot_open(i);
+    match rt.arg(i, &mut got) {
+        Ok(n) => octets_slice::equal(&got[..n], word),
+        Err(_) => false,
     }
-    fd
 }
 
-fn cannot_open(i: usize) {
+// Opens the file that argument i names. `dock` gives every name in UTF-8.
+pub fn open_as<R: Files + Env>(rt: &R, i: usize, how: &OpenOptions) -> io::Result<R::File> {
+    let mut room = [0u8; 4096];
+    let Ok(n) = rt.arg(i, &mut room) else {
+        return Err(Error::from(ErrorKind::InvalidFilename));
+    };
+    match std::str::from_utf8(&room[..n]) {
+        Ok(path) => how.open(rt, path),
+        Err(_) => Err(Error::from(ErrorKind::InvalidFilename)),
+    }
+}
+
+// Opens the file that argument i names, or tells why not. No name is written to the terminal: it may hold bytes that the terminal obeys.
+pub fn open<R: Files + Env + Eprint + Alloc>(rt: &R, i: usize) -> Option<R::File> {
+    let mut how = OpenOptions::new();
+    how.read(true);
+    match open_as(rt, i, &how) {
+        Ok(file) => Some(file),
+        Err(e) => {
+            cannot_open(rt, i, &e);
+            None
+        }
+    }
+}
+
+fn cannot_open<E: Eprint + Alloc>(rt: &E, i: usize, why: &Error) {
     if i == KEYS {
-        tell::failed(b"the key file cannot be opened, check its permissions");
+        streams::tell(rt, "dock: the key file cannot be opened, check its permissions", why);
     } else {
-        tell::failed(b"the input cannot be opened, check its permissions");
+        streams::tell(rt, "dock: the input cannot be opened, check its permissions", why);
     }
 }
 
 // The size of an open file, or more than an image can hold if it has no size. Reading then starts at its first byte.
-pub fn size_of(fd: i32) -> usize {
-    let end = libc::lseek(fd, 0, libc::SEEK_END);
-    if libc::lseek(fd, 0, libc::SEEK_SET) != 0 {
+pub fn size_of<F: Seek>(file: &mut F) -> usize {
+    let end = file.seek(SeekFrom::End(0));
+    if !file.seek(SeekFrom::Start(0)).is_ok_and(|at| at == 0) {
         return usize::MAX;
     }
-    if end < 0 {
-        return usize::MAX;
+    match end {
+        Ok(n) => n as usize,
+        Err(_) => usize::MAX,
     }
-    natural(end)
 }
 
-// Reads `want` bytes, or as many as `buf` holds, or until the input ends, or a read fails.
-pub fn fill(fd: i32, buf: &mut [u8], want: usize) -> Got {
+// Reads `want` bytes, or as many as `buf` holds, or until the input ends: how many were read, and none where a read failed, which is told.
+pub fn fill<E: Eprint + Alloc, F: Read>(
+    rt: &E,
+    file: &mut F,
+    buf: &mut [u8],
+    want: usize,
+) -> Option<usize> {
     let end = smaller(buf.len(), want);
     let mut at: usize = 0;
     while at < end {
-        let g = more(fd, buf, at, end);
-        if g.failed {
-            tell::failed(b"a read failed, check the disk and start again");
-            return Got {
-                n: at,
-                failed: true,
-            };
+        match more(rt, file, &mut buf[at..end]) {
+            Ok(0) => break,
+            Ok(n) => at += n,
+            Err(_) => return None,
         }
-        if g.n == 0 {
-            break;
-        }
-        at += g.n;
     }
-    Got {
-        n: at,
-        failed: false,
-    }
+    Some(at)
 }
 
-fn more(fd: i32, buf: &mut [u8], at: usize, end: usize) -> Got
-    requires { (at ≤ end) × (end ≤ length buf.old) }
-    ensures { result.n ≤ end - at }
+fn more<E: Eprint + Alloc, F: Read>(rt: &E, file: &mut F, part: &mut [u8]) -> io::Result<usize>
+    ensures { IfOk result (λ n. n ≤ length part.new) }
 {
-    let got = libc::read(fd, &mut buf[at..end]);
-    Got {
-        n: smaller(natural(got as i64), end - at),
-        failed: got < 0,
-    }
+    streams::read_part(rt, file, part, "dock: a read failed, check the disk and start again")
 }
 
-// 0 for a number below.
-pub fn natural(n: i64) -> usize {
-    if n >= 0 { n as usize } else { 0 }
-}
-
-// Two keys of equal size, or none if their file is wrong, which is reported: how many bytes they have.
-pub fn keys(room: &mut [u8; 65]) -> usize {
-    let fd = open(KEYS);
-    if fd < 0 {
+// Two keys of equal size, or none if their file is wrong, which is told: how many bytes they have.
+pub fn keys<R: Files + Env + Eprint + Alloc>(rt: &R, room: &mut [u8; 65]) -> usize {
+    let Some(mut file) = open(rt, KEYS) else {
         return 0;
-    }
-    let got = fill(fd, room, 65);
-    libc::close(fd);
-    if got.failed {
+    };
+    let Some(n) = fill(rt, &mut file, room, 65) else {
         return 0;
+    };
+    if is_two_keys(n) {
+        return n;
     }
-    if is_two_keys(got.n) {
-        return got.n;
-    }
-    wrong_size(got.n);
+    wrong_size(rt, n);
     0
 }
 
@@ -125,16 +119,17 @@ fn is_two_keys(n: usize) -> bool {
     }
 }
 
-fn wrong_size(n: usize) {
-    tell::say(b"dock: the key file has ");
+fn wrong_size(rt: &impl Eprint, n: usize) {
+    tell::say(rt, "dock: the key file has ");
     if n == 65 {
-        tell::say(b"more than 64 bytes");
+        tell::say(rt, "more than 64 bytes");
     } else {
-        tell::number(n as u64);
-        tell::say(b" bytes");
+        tell::number(rt, n as u64);
+        tell::say(rt, " bytes");
     }
     tell::say(
-        b": it must hold the encryption key and then the check key, of the same size, 32, 48 or 64 bytes in all\n",
+        rt,
+        ": it must hold the encryption key and then the check key, of the same size, 32, 48 or 64 bytes in all\n",
     );
 }
 

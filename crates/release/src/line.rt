@@ -1,10 +1,9 @@
 // The line on standard output that says whether an image is complete, and what it holds.
 use crate::put::number;
 use image_progress::Progress;
-use libc::STDOUT_FILENO;
 
 // What the line says of an image: its edition, release and blocks, and the bytes of their payload.
-#[derive(Drop)]
+#[derive(Clone, Copy)]
 pub struct Told {
     pub release: u32,
     pub edition: u32,
@@ -36,21 +35,22 @@ fn rest(t: Told, text: &mut [u8], at: usize) -> usize {
     text_put::put(b"\n", text, b)
 }
 
-fn write(t: Told, word: &[u8]) {
+// `dock` takes the line for what became of the work, so a line that cannot be written is none.
+fn write(rt: &impl Print, t: Told, word: &[u8]) {
     let mut text = [0u8; 128];
     let end = put(t, word, &mut text);
-    io::write_all(STDOUT_FILENO, octets_slice::part(&text, 0, end));
+    let _ = rt.write_all(octets_slice::part(&text, 0, end));
 }
 
-pub fn complete(t: Told) {
-    write(t, b"complete");
+pub fn complete(rt: &impl Print, t: Told) {
+    write(rt, t, b"complete");
 }
 
 // Where no block was accepted, neither release nor edition is known.
-pub fn not_complete(t: Told) {
+pub fn not_complete(rt: &impl Print, t: Told) {
     if t.blocks == 0 {
-        io::write_all(STDOUT_FILENO, b"not complete blocks 0\n");
+        let _ = rt.write_all(b"not complete blocks 0\n");
         return;
     }
-    write(t, b"not complete");
+    write(rt, t, b"not complete");
 }

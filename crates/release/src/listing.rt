@@ -1,21 +1,22 @@
 // The blocks of an image, a row each, as the program `listing` lists them, under keys of every size.
-use crate::{clock, input, lines, reading, rows};
-use clock::Clock;
+use crate::{clock, input, lent, lines, reading, rows, system};
 use image_reader::{Reader, Turn};
 use lines::{Text, Waiting};
 use reading::After;
+use std::fs::File;
+use system::System;
 
 const FORM: usize = 4;
 
 // What is read, and whether rows are objects of JSON.
-#[derive(Drop)]
-pub struct Source {
-    pub from: i32,
+#[derive(Clone, Copy)]
+pub struct Source<'a> {
+    pub from: &'a File,
     pub json: bool,
 }
 
 // Where the listing stands.
-#[derive(Drop)]
+#[derive(Clone, Copy)]
 pub struct Listed {
     pub reader: Reader,
     pub waiting: Waiting,
@@ -72,9 +73,8 @@ fn offer(l: Listed, json: bool, lent: &[u8], text: &mut Text) -> Listed {
     }
 }
 
-fn with_room(l: Listed, text: &Text) -> Listed {
-    let before = l.waiting;
-    let waiting = lines::with_room(before, text);
+fn with_room(rt: &impl System, l: Listed, text: &Text) -> Listed {
+    let waiting = lines::with_room(rt, l.waiting, text);
     if !waiting.going {
         return l.then(After::Failed);
     }
@@ -88,92 +88,90 @@ fn with_room(l: Listed, text: &Text) -> Listed {
 }
 
 // Bytes that are no whole block are offered as they are.
-fn step(l: Listed, s: Source, text: &mut Text) -> Listed {
+fn step(rt: &impl System, l: Listed, s: Source<'_>, text: &mut Text) -> Listed {
     let mut block = [0u8; 512];
-    let got = input::fill(s.from, &mut block, 512);
-    if got.failed {
+    let mut from = s.from;
+    let Some(n) = input::fill(rt, &mut from, &mut block, 512) else {
         return l.then(After::Failed);
-    }
-    if got.n == 0 {
+    };
+    if n == 0 {
         return l.then(After::Stopped(0));
     }
-    with_room(
-        offer(l, s.json, octets_slice::part(&block, 0, got.n), text),
-        text,
-    )
+    let offered = offer(l, s.json, octets_slice::part(&block, 0, n), text);
+    with_room(rt, offered, text)
 }
 
 // An image has at most 65,535 blocks and the reader refuses one more, so the bound cuts nothing off.
-fn list_blocks(reader: Reader, s: Source, text: &mut Text) -> Listed {
-    let mut c = clock::start((input::size_of(s.from) / 512) as u64);
+fn list_blocks(
+    rt: &impl System,
+    reader: Reader,
+    s: Source<'_>,
+    terminal: Option<File>,
+    text: &mut Text,
+) -> Listed {
+    let mut from = s.from;
+    let mut c = clock::start(rt, terminal, (input::size_of(&mut from) / 512) as u64);
     let mut l = Listed {
         reader,
         waiting: lines::none().up_to(rows::first(s.json, text)),
         after: After::Another,
     };
-    let mut left: u32 = 65536;
-    while left > 0 {
-        let u = step(l, s, text);
-        l = u;
-        let after = u.after;
-        let After::Another = after else {
-            clock::stop(c);
+    for _ in 0..65536 {
+        l = step(rt, l, s, text);
+        let After::Another = l.after else {
+            c.stop();
             return l;
         };
-        c = ticked(c, u);
-        left -= 1;
+        c.tick(rt, l.reader.progress.next as u64);
     }
     l
 }
 
-fn ticked(c: Clock, l: Listed) -> Clock {
-    let reader = l.reader;
-    clock::tick(c, reader.progress.next as u64)
-}
-
 // The last row, and whether it says that the image is complete and was written. The reader began at 0, so the number that it expects
 // is the count of blocks accepted.
-fn is_complete(l: Listed, json: bool, text: &mut Text) -> bool {
+fn is_complete(rt: &impl System, l: Listed, json: bool, text: &mut Text) -> bool {
     let reader = l.reader;
     let waiting = l.waiting;
     let accepted = reader.progress.next;
     let complete = image_reader::read_complete(reader).number() as u64;
     let end = rows::last(json, complete, accepted as u64, text, waiting.end);
-    if lines::written(waiting.up_to(end), text).going {
+    if lines::written(rt, waiting.up_to(end), text).going {
         return complete == 0;
     }
     false
 }
 
 // Whether every block was accepted, the last one too, and all of it was said. Only then is the whole file an image.
-fn is_whole(reader: Reader, s: Source) -> bool {
+fn is_whole(rt: &impl System, reader: Reader, s: Source<'_>, terminal: Option<File>) -> bool {
     let mut text = [0u8; 8192];
-    let l = list_blocks(reader, s, &mut text);
-    let after = l.after;
-    let After::Stopped(answer) = after else {
-        lines::written(l.waiting, &text);
+    let l = list_blocks(rt, reader, s, terminal, &mut text);
+    let After::Stopped(answer) = l.after else {
+        lines::written(rt, l.waiting, &text);
         return false;
     };
-    if is_complete(l, s.json, &mut text) {
+    if is_complete(rt, l, s.json, &mut text) {
         return answer == 0;
     }
     false
 }
 
-pub fn list_image() {
+pub fn list_image(rt: &impl System) {
+    let word = lent::word(rt);
+    let terminal = lent::terminal(rt);
     let mut room = [0u8; 65];
-    let n = input::keys(&mut room);
+    let n = input::keys(rt, &mut room);
     if n == 0 {
         return;
     }
     let s = reading::started(input::of(&room, n));
-    let reader = s.reader;
-    let from = input::open(input::INPUT);
-    if from < 0 {
+    let Some(file) = input::open(rt, input::INPUT) else {
         return;
-    }
-    let json = input::is_word(FORM, b"json");
-    if is_whole(reader, Source { from, json }) {
-        lines::report();
+    };
+    let source = Source {
+        from: &file,
+        json: input::is_word(rt, FORM, b"json"),
+    };
+    if is_whole(rt, s.reader, source, terminal) {
+        lent::report(word);
     }
 }

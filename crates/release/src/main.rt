@@ -9,6 +9,7 @@ mod clock;
 mod heads;
 mod input;
 mod keep;
+mod lent;
 mod line;
 mod lines;
 mod listing;
@@ -17,33 +18,34 @@ mod reading;
 mod rows;
 mod sealing;
 mod showing;
+mod system;
 mod tell;
 
-fn main() {
-    let mut verb = [0u8; 8];
-    let n = os::arg(1, &mut verb);
-    let word = &verb[..n];
-    if check::same(word, b"check") {
-        reading::check_image();
+const VERB: usize = 1;
+
+fn main(rt: HostRuntime) {
+    if input::is_word(&rt, VERB, b"check") {
+        reading::check_image(&rt);
         return;
     }
-    if check::same(word, b"open") {
-        reading::open_image();
+    if input::is_word(&rt, VERB, b"open") {
+        reading::open_image(&rt);
         return;
     }
-    if check::same(word, b"list") {
-        listing::list_image();
+    if input::is_word(&rt, VERB, b"list") {
+        listing::list_image(&rt);
         return;
     }
-    if check::same(word, b"show") {
-        showing::show_image();
+    if input::is_word(&rt, VERB, b"show") {
+        showing::show_image(&rt);
         return;
     }
-    if check::same(word, b"seal") {
-        sealing::seal_file();
+    if input::is_word(&rt, VERB, b"seal") {
+        sealing::seal_file(&rt);
         return;
     }
     tell::plain(
-        b"the first word is none of seal, open, check, list and show: start the program by dock",
+        &rt,
+        "the first word is none of seal, open, check, list and show: start the program by dock",
     );
 }

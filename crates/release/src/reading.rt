@@ -1,15 +1,17 @@
 // An image read in turns of 128 blocks: checked, or its payload put into the output once it is whole.
-use crate::{card, clock, input, keep, line};
+use crate::{card, clock, input, keep, lent, line, system};
 use image_layout::Head;
 use image_reader::{ReadStarted, Reader};
 use line::Told;
+use std::fs::File;
+use system::System;
 
 type Blocks = [u8; 65536];
 
 type Payload = [u8; 61440];
 
 // What comes after a turn: another, nothing, since the input stopped with 0 or a refusal, or nothing, since something failed and was told.
-#[derive(Drop)]
+#[derive(Clone, Copy)]
 pub enum After {
     Another,
     Stopped(u32),
@@ -17,7 +19,7 @@ pub enum After {
 }
 
 // How far the reading has come, with the bytes of payload so far, and the header of the block that the last turn stopped at.
-#[derive(Drop)]
+#[derive(Clone, Copy)]
 pub struct Reading {
     pub reader: Reader,
     pub bytes: u64,
@@ -42,17 +44,17 @@ fn accepted(reader: Reader) -> u64 {
     reader.progress.next as u64
 }
 
-// Below 0 means no output: a check drops the payload.
-fn is_put(to: i32, bytes: &[u8]) -> bool {
-    if to < 0 {
-        return true;
+// Without an output the payload is dropped: that is a check.
+fn is_put(rt: &impl System, to: Option<&File>, bytes: &[u8]) -> bool {
+    match to {
+        Some(file) => keep::write(rt, file, bytes),
+        None => true,
     }
-    keep::write(to, bytes)
 }
 
 // An image has at most 31,456,800 bytes of payload, so the sum cuts nothing off.
 fn sum(a: u64, b: usize) -> u64 {
-    std::num::wrapping_add_u64(a, b as u64)
+    a.wrapping_add(b as u64)
 }
 
 // Where a block of a turn begins.
@@ -65,7 +67,13 @@ fn head_at(lent: &[u8], block: usize) -> Head {
 }
 
 // Whole blocks are offered. Only the last block of an image may be short, so the payload of a turn has no gap.
-fn offer(r: Reading, lent: &[u8], to: i32, payload: &mut Payload) -> Reading {
+fn offer(
+    rt: &impl System,
+    r: Reading,
+    lent: &[u8],
+    to: Option<&File>,
+    payload: &mut Payload,
+) -> Reading {
     let before = r.reader;
     let t = image_reader::read_turn(before, lent, 128, payload);
     let n = t.bytes;
@@ -78,7 +86,7 @@ fn offer(r: Reading, lent: &[u8], to: i32, payload: &mut Payload) -> Reading {
         head: head_at(lent, t.accepted),
         after: After::Another,
     };
-    if !is_put(to, octets_slice::part(payload, 0, n)) {
+    if !is_put(rt, to, octets_slice::part(payload, 0, n)) {
         return u.then(After::Failed);
     }
     if answer == 0 {
@@ -99,57 +107,65 @@ fn with_rest(r: Reading, rest: usize) -> Reading {
     r.then(After::Stopped(6))
 }
 
-fn step(r: Reading, from: i32, to: i32, lent: &mut Blocks, payload: &mut Payload) -> Reading {
-    let got = input::fill(from, lent, 65536);
-    if got.failed {
+fn step(
+    rt: &impl System,
+    r: Reading,
+    mut from: &File,
+    to: Option<&File>,
+    lent: &mut Blocks,
+    payload: &mut Payload,
+) -> Reading {
+    let Some(n) = input::fill(rt, &mut from, lent, 65536) else {
         return r.then(After::Failed);
-    }
-    let n = got.n;
+    };
     if n == 0 {
         return r.then(After::Stopped(0));
     }
     let rest = n % 512;
     with_rest(
-        offer(r, octets_slice::part(lent, 0, n - rest), to, payload),
+        offer(rt, r, octets_slice::part(lent, 0, n - rest), to, payload),
         rest,
     )
 }
 
 // An image has at most 65,535 blocks and the reader refuses one more, so the bound cuts nothing off.
 fn read_blocks(
+    rt: &impl System,
     reader: Reader,
-    from: i32,
-    to: i32,
+    mut from: &File,
+    to: Option<&File>,
+    terminal: Option<File>,
     lent: &mut Blocks,
     payload: &mut Payload,
 ) -> Reading {
-    let mut c = clock::start((input::size_of(from) / 512) as u64);
+    let mut c = clock::start(rt, terminal, (input::size_of(&mut from) / 512) as u64);
     let mut r = Reading {
         reader,
         bytes: 0,
         head: image_layout::head_of([0u8; 16]),
         after: After::Another,
     };
-    let mut left: u32 = 65536;
-    while left > 0 {
-        let s = step(r, from, to, lent, payload);
-        r = s;
-        let after = s.after;
-        let After::Another = after else {
-            clock::stop(c);
+    for _ in 0..65536 {
+        r = step(rt, r, from, to, lent, payload);
+        let After::Another = r.after else {
+            c.stop();
             return r;
         };
-        let seen = s.reader;
-        c = clock::tick(c, accepted(seen));
-        left -= 1;
+        c.tick(rt, accepted(r.reader));
     }
     r
 }
 
-fn read_image(reader: Reader, from: i32, to: i32) -> Reading {
+fn read_image(
+    rt: &impl System,
+    reader: Reader,
+    from: &File,
+    to: Option<&File>,
+    terminal: Option<File>,
+) -> Reading {
     let mut lent = [0u8; 65536];
     let mut payload = [0u8; 61440];
-    read_blocks(reader, from, to, &mut lent, &mut payload)
+    read_blocks(rt, reader, from, to, terminal, &mut lent, &mut payload)
 }
 
 fn told(reader: Reader, bytes: u64) -> Told {
@@ -161,43 +177,42 @@ fn is_complete(reader: Reader) -> bool {
 }
 
 // The whole input was accepted: 17 where it ends before the last block.
-fn ended(r: Reading, to: i32) {
+fn ended(rt: &impl System, r: Reading, to: Option<&File>) {
     let reader = r.reader;
     if !is_complete(reader) {
-        card::tell(accepted(reader), 17);
-        line::not_complete(told(reader, r.bytes));
+        card::tell(rt, accepted(reader), 17);
+        line::not_complete(rt, told(reader, r.bytes));
         return;
     }
-    if to >= 0 {
-        if !keep::is_kept(to) {
+    if let Some(file) = to {
+        if !keep::is_kept(rt, file) {
             return;
         }
     }
-    line::complete(told(reader, r.bytes));
+    line::complete(rt, told(reader, r.bytes));
 }
 
 // Behind a complete image the refusal, 16 or 6, says less than how much there is.
-fn refused(r: Reading, from: i32, answer: u32) {
+fn refused(rt: &impl System, r: Reading, mut from: &File, answer: u32) {
     let reader = r.reader;
     if is_complete(reader) {
-        card::tell_more(accepted(reader), input::size_of(from) as u64);
+        card::tell_more(rt, accepted(reader), input::size_of(&mut from) as u64);
     } else {
-        card::tell(accepted(reader), answer);
+        card::tell(rt, accepted(reader), answer);
         if answer == 14 {
-            card::tell_check(reader.progress, r.head);
+            card::tell_check(rt, reader.progress, r.head);
         }
     }
-    line::not_complete(told(reader, r.bytes));
+    line::not_complete(rt, told(reader, r.bytes));
 }
 
-fn report(r: Reading, from: i32, to: i32) {
-    let after = r.after;
-    match after {
+fn report(rt: &impl System, r: Reading, from: &File, to: Option<&File>) {
+    match r.after {
         After::Stopped(answer) => {
             if answer == 0 {
-                ended(r, to);
+                ended(rt, r, to);
             } else {
-                refused(r, from, answer);
+                refused(rt, r, from, answer);
             }
         }
         After::Another | After::Failed => {}
@@ -209,28 +224,28 @@ pub fn started(keys: &[u8]) -> ReadStarted {
 }
 
 // The keys have a size that is taken, so their answer is not looked at.
-fn read_to(to: i32) {
+fn read_to(rt: &impl System, to: Option<&File>, terminal: Option<File>) {
     let mut room = [0u8; 65];
-    let n = input::keys(&mut room);
+    let n = input::keys(rt, &mut room);
     if n == 0 {
         return;
     }
     let s = started(input::of(&room, n));
-    let reader = s.reader;
-    let from = input::open(input::INPUT);
-    if from < 0 {
+    let Some(from) = input::open(rt, input::INPUT) else {
         return;
-    }
-    report(read_image(reader, from, to), from, to);
+    };
+    let r = read_image(rt, s.reader, &from, to, terminal);
+    report(rt, r, &from, to);
 }
 
-pub fn check_image() {
-    read_to(-1);
+pub fn check_image(rt: &impl System) {
+    let terminal = lent::terminal(rt);
+    read_to(rt, None, terminal);
 }
 
-pub fn open_image() {
-    let to = keep::open();
-    if to >= 0 {
-        read_to(to);
+pub fn open_image(rt: &impl System) {
+    let terminal = lent::terminal(rt);
+    if let Some(to) = keep::open(rt) {
+        read_to(rt, Some(&to), terminal);
     }
 }

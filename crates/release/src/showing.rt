@@ -1,11 +1,16 @@
 // The headers of an image's blocks, as they stand there: of all, by a view of at most 128 blocks at a time, or of one. Under keys also
 // what a reader says of each block by itself.
-use crate::{alone, card, clock, heads, input, lines, reading, sealing, tell};
+use crate::{
+    alone, card, clock, heads, input, lent, lines, reading, sealing, system, tell,
+};
 use alone::Payload;
 use heads::{Seen, Style};
 use image_layout::Head;
 use image_reader::Reader;
 use lines::{Text, Waiting};
+use std::fs::File;
+use std::io::{Seek, SeekFrom};
+use system::System;
 use text_decimal::Number;
 
 type Blocks = [u8; 65536];
@@ -15,18 +20,18 @@ const PLACE: usize = 4;
 const FORM: usize = 5;
 
 // The image, the keys if there are any, and the form that is asked for.
-#[derive(Drop)]
-pub struct Job {
+#[derive(Clone, Copy)]
+pub struct Job<'a> {
     pub reader: Reader,
     pub keyed: bool,
     pub style: Style,
-    pub from: i32,
+    pub from: &'a File,
     pub size: usize,
 }
 
 // How far the showing has come: the place of the next block, the check of the one before it, whether no block was refused, and
 // whether nothing has failed.
-#[derive(Drop)]
+#[derive(Clone, Copy)]
 pub struct Shown {
     pub place: usize,
     pub last: [u8; 16],
@@ -36,7 +41,7 @@ pub struct Shown {
 }
 
 // The places that are asked for, up to `end`, and the check of the block before the first.
-#[derive(Drop)]
+#[derive(Clone, Copy)]
 pub struct Range {
     pub first: usize,
     pub end: usize,
@@ -46,7 +51,13 @@ pub struct Range {
 // ---- one block
 
 // Without keys there is no answer, and 0 stands for it.
-fn answer(job: Job, head: Head, last: [u8; 16], block: &[u8], payload: &mut Payload) -> u32 {
+fn answer(
+    job: Job<'_>,
+    head: Head,
+    last: [u8; 16],
+    block: &[u8],
+    payload: &mut Payload,
+) -> u32 {
     if !job.keyed {
         return 0;
     }
@@ -54,7 +65,13 @@ fn answer(job: Job, head: Head, last: [u8; 16], block: &[u8], payload: &mut Payl
 }
 
 // A block that a view shows: its answer is found and all of it is put.
-fn show_block(job: Job, s: Shown, block: &[u8], text: &mut Text) -> Shown {
+fn show_block(
+    rt: &impl System,
+    job: Job<'_>,
+    s: Shown,
+    block: &[u8],
+    text: &mut Text,
+) -> Shown {
     let mut payload = [0u8; 480];
     let head = image_layout::head_of(octets_block::load(block, 0));
     let last = s.last;
@@ -65,11 +82,10 @@ fn show_block(job: Job, s: Shown, block: &[u8], text: &mut Text) -> Shown {
         keyed: job.keyed,
         answer: found,
     };
-    let before = s.waiting;
-    let waiting = lines::with_room(before, text);
+    let waiting = lines::with_room(rt, s.waiting, text);
     let end = heads::block(seen, job.style, block, &payload, text, waiting.end);
     Shown {
-        place: std::num::wrapping_add_usize(s.place, 1),
+        place: s.place.wrapping_add(1),
         last: octets_block::load(image_view::check_part(block, 0), 0),
         right: sealing::both(s.right, found == 0),
         going: waiting.going,
@@ -80,15 +96,27 @@ fn show_block(job: Job, s: Shown, block: &[u8], text: &mut Text) -> Shown {
 // ---- all blocks
 
 // Block j of the view of a turn.
-fn show_at(job: Job, s: Shown, lent: &[u8], j: usize, text: &mut Text) -> Shown {
-    show_block(job, s, image_view::block_part(lent, j), text)
+fn show_at(
+    rt: &impl System,
+    job: Job<'_>,
+    s: Shown,
+    lent: &[u8],
+    j: usize,
+    text: &mut Text,
+) -> Shown {
+    show_block(rt, job, s, image_view::block_part(lent, j), text)
 }
 
-fn show_turn(job: Job, s: Shown, lent: &[u8], text: &mut Text) -> Shown {
+fn show_turn(
+    rt: &impl System,
+    job: Job<'_>,
+    s: Shown,
+    lent: &[u8],
+    text: &mut Text,
+) -> Shown {
     let mut t = s;
     for j in 0..image_view::blocks(lent) {
-        let u = show_at(job, t, lent, j, text);
-        t = u;
+        t = show_at(rt, job, t, lent, j, text);
     }
     t
 }
@@ -105,22 +133,32 @@ fn stopped(s: Shown) -> Shown {
     }
 }
 
-fn tell_changed() {
-    tell::plain(b"the image was changed while it was read: show it again once nobody writes to it");
+fn tell_changed(rt: &impl Eprint) {
+    tell::plain(
+        rt,
+        "the image was changed while it was read: show it again once nobody writes to it",
+    );
 }
 
 // The next 128 blocks, or what is left of them.
-fn turn(job: Job, s: Shown, end: usize, lent: &mut Blocks, text: &mut Text) -> Shown {
+fn turn(
+    rt: &impl System,
+    job: Job<'_>,
+    s: Shown,
+    end: usize,
+    lent: &mut Blocks,
+    text: &mut Text,
+) -> Shown {
     let n = sealing::left(end, s.place, 128) * 512;
-    let got = input::fill(job.from, lent, n);
-    if got.failed {
+    let mut from = job.from;
+    let Some(got) = input::fill(rt, &mut from, lent, n) else {
+        return stopped(s);
+    };
+    if got < n {
+        tell_changed(rt);
         return stopped(s);
     }
-    if got.n < n {
-        tell_changed();
-        return stopped(s);
-    }
-    show_turn(job, s, octets_slice::part(lent, 0, n), text)
+    show_turn(rt, job, s, octets_slice::part(lent, 0, n), text)
 }
 
 // How many turns of 128 blocks there are.
@@ -131,8 +169,15 @@ fn turns_of(r: Range) -> usize {
     (r.end - r.first - 1) / 128 + 1
 }
 
-fn show_blocks(job: Job, r: Range, lent: &mut Blocks, text: &mut Text) -> Shown {
-    let mut c = clock::start(r.end as u64);
+fn show_blocks(
+    rt: &impl System,
+    job: Job<'_>,
+    r: Range,
+    terminal: Option<File>,
+    lent: &mut Blocks,
+    text: &mut Text,
+) -> Shown {
+    let mut c = clock::start(rt, terminal, r.end as u64);
     let last = r.last;
     let mut s = Shown {
         place: r.first,
@@ -141,42 +186,39 @@ fn show_blocks(job: Job, r: Range, lent: &mut Blocks, text: &mut Text) -> Shown 
         going: true,
         waiting: lines::none(),
     };
-    let mut left = turns_of(r);
-    while left > 0 {
-        let t = turn(job, s, r.end, lent, text);
-        s = t;
-        if !t.going {
-            clock::stop(c);
+    for _ in 0..turns_of(r) {
+        s = turn(rt, job, s, r.end, lent, text);
+        if !s.going {
+            c.stop();
             return s;
         }
-        c = clock::tick(c, t.place as u64);
-        left -= 1;
+        c.tick(rt, s.place as u64);
     }
-    clock::stop(c);
+    c.stop();
     s
 }
 
 // ---- the image
 
-fn blocks_of(job: Job) -> usize {
+fn blocks_of(job: Job<'_>) -> usize {
     job.size / 512
 }
 
-fn is_cut(job: Job) -> bool {
+fn is_cut(job: Job<'_>) -> bool {
     job.size % 512 != 0
 }
 
 // Behind the whole blocks there is what there was at the start.
-fn is_unchanged(job: Job) -> bool {
+fn is_unchanged(rt: &impl System, job: Job<'_>) -> bool {
     let mut rest = [0u8; 512];
-    let got = input::fill(job.from, &mut rest, 512);
-    if got.failed {
+    let mut from = job.from;
+    let Some(n) = input::fill(rt, &mut from, &mut rest, 512) else {
         return false;
-    }
-    if got.n == job.size % 512 {
+    };
+    if n == job.size % 512 {
         return true;
     }
-    tell_changed();
+    tell_changed(rt);
     false
 }
 
@@ -189,113 +231,122 @@ fn put_missing(json: bool, place: usize, answer: u32, w: Waiting, text: &mut Tex
 }
 
 // Bytes behind the last whole block are refused with 6, but after the blocks before them have been shown.
-fn is_all_right(job: Job, s: Shown, text: &mut Text) -> bool {
+fn is_all_right(rt: &impl System, job: Job<'_>, s: Shown, text: &mut Text) -> bool {
     let before = s.waiting;
     if !is_cut(job) {
-        return sealing::both(s.right, lines::written(before, text).going);
+        return sealing::both(s.right, lines::written(rt, before, text).going);
     }
-    let waiting = put_missing(
-        job.style.json,
-        blocks_of(job),
-        6,
-        lines::with_room(before, text),
-        text,
-    );
-    lines::written(waiting, text);
-    card::tell(blocks_of(job) as u64, 6);
+    let roomy = lines::with_room(rt, before, text);
+    let waiting = put_missing(job.style.json, blocks_of(job), 6, roomy, text);
+    lines::written(rt, waiting, text);
+    card::tell(rt, blocks_of(job) as u64, 6);
     false
 }
 
-fn end(job: Job, s: Shown, text: &mut Text) {
-    if !s.going {
-        lines::written(s.waiting, text);
-        return;
+// Whether all was shown, and no block is refused.
+fn is_whole(rt: &impl System, job: Job<'_>, s: Shown, text: &mut Text) -> bool {
+    if s.going {
+        return is_all_right(rt, job, s, text);
     }
-    if is_all_right(job, s, text) {
-        lines::report();
-    }
+    lines::written(rt, s.waiting, text);
+    false
 }
 
-fn show_all(job: Job, lent: &mut Blocks, text: &mut Text) {
+fn show_all(
+    rt: &impl System,
+    job: Job<'_>,
+    terminal: Option<File>,
+    lent: &mut Blocks,
+    text: &mut Text,
+) -> bool {
     if job.size == 0 {
-        tell::plain(b"the image has no blocks: the file is empty, so fetch it again");
-        return;
+        tell::plain(
+            rt,
+            "the image has no blocks: the file is empty, so fetch it again",
+        );
+        return false;
     }
     let r = Range {
         first: 0,
         end: blocks_of(job),
         last: [0u8; 16],
     };
-    let s = show_blocks(job, r, lent, text);
+    let s = show_blocks(rt, job, r, terminal, lent, text);
     if !s.going {
-        end(job, s, text);
-        return;
+        return is_whole(rt, job, s, text);
     }
-    if is_unchanged(job) {
-        end(job, s, text);
-        return;
+    if is_unchanged(rt, job) {
+        return is_whole(rt, job, s, text);
     }
-    end(job, stopped(s), text);
+    is_whole(rt, job, stopped(s), text)
 }
 
 // ---- one place
 
 // Where the check of a block lies in the image.
-fn check_place(place: usize) -> i64 {
-    (place % 4294967296 * 512 + 496) as i64
+fn check_place(place: usize) -> u64 {
+    (place % 4294967296 * 512 + 496) as u64
 }
 
 // Reads the check of a block, so that the block behind it comes next; answers whether that could be done.
-fn is_check_read(from: i32, place: usize, check: &mut [u8; 16]) -> bool {
-    let at = check_place(place);
-    if libc::lseek(from, at, libc::SEEK_SET) != at {
-        tell::failed(b"the image cannot be read, check the disk and start again");
+fn is_check_read(rt: &impl System, mut from: &File, place: usize, check: &mut [u8; 16]) -> bool {
+    if let Err(e) = from.seek(SeekFrom::Start(check_place(place))) {
+        streams::tell(
+            rt,
+            "dock: the image cannot be read, check the disk and start again",
+            &e,
+        );
         return false;
     }
-    let got = input::fill(from, check, 16);
-    if got.failed {
+    let Some(n) = input::fill(rt, &mut from, check, 16) else {
         return false;
-    }
-    if got.n == 16 {
+    };
+    if n == 16 {
         return true;
     }
-    tell_changed();
+    tell_changed(rt);
     false
 }
 
 // The first block has sixteen zeros before it.
-fn is_before_read(from: i32, place: usize, check: &mut [u8; 16]) -> bool {
+fn is_before_read(rt: &impl System, from: &File, place: usize, check: &mut [u8; 16]) -> bool {
     if place == 0 {
         return true;
     }
-    is_check_read(from, place - 1, check)
+    is_check_read(rt, from, place - 1, check)
 }
 
-fn show_place(job: Job, place: usize, lent: &mut Blocks, text: &mut Text) {
+fn show_place(
+    rt: &impl System,
+    job: Job<'_>,
+    terminal: Option<File>,
+    place: usize,
+    lent: &mut Blocks,
+    text: &mut Text,
+) -> bool {
     let mut last = [0u8; 16];
-    if !is_before_read(job.from, place, &mut last) {
-        return;
+    if !is_before_read(rt, job.from, place, &mut last) {
+        return false;
     }
     let r = Range {
         first: place,
-        end: std::num::wrapping_add_usize(place, 1),
+        end: place.wrapping_add(1),
         last,
     };
-    end(job, show_blocks(job, r, lent, text), text);
+    let s = show_blocks(rt, job, r, terminal, lent, text);
+    is_whole(rt, job, s, text)
 }
 
 // The place is that of no whole block: of the bytes behind the last one, or of none.
-fn show_none(job: Job, place: usize, text: &mut Text) {
+fn show_none(rt: &impl System, job: Job<'_>, place: usize, text: &mut Text) {
     let blocks = blocks_of(job);
     let answer = none_number(place == blocks, is_cut(job));
-    lines::written(
-        put_missing(job.style.json, place, answer, lines::none(), text),
-        text,
-    );
+    let waiting = put_missing(job.style.json, place, answer, lines::none(), text);
+    lines::written(rt, waiting, text);
     if answer == 6 {
-        card::tell(place as u64, 6);
+        card::tell(rt, place as u64, 6);
     } else {
-        card::tell_place(blocks as u64);
+        card::tell_place(rt, blocks as u64);
     }
 }
 
@@ -303,67 +354,91 @@ fn none_number(behind: bool, cut: bool) -> u32 {
     if sealing::both(behind, cut) { 6 } else { 20 }
 }
 
-fn show_one(job: Job, place: usize, lent: &mut Blocks, text: &mut Text) {
+fn show_one(
+    rt: &impl System,
+    job: Job<'_>,
+    terminal: Option<File>,
+    place: usize,
+    lent: &mut Blocks,
+    text: &mut Text,
+) -> bool {
     if place < blocks_of(job) {
-        show_place(job, place, lent, text);
-    } else {
-        show_none(job, place, text);
+        return show_place(rt, job, terminal, place, lent, text);
     }
+    show_none(rt, job, place, text);
+    false
 }
 
 // ---- the words
 
-fn show(job: Job, place: usize) {
+// Whether all that was asked for was shown, and no block of it is refused.
+fn show(rt: &impl System, job: Job<'_>, terminal: Option<File>, place: usize) -> bool {
     let mut lent = [0u8; 65536];
     let mut text = [0u8; 8192];
     if job.style.one {
-        show_one(job, place, &mut lent, &mut text);
-    } else {
-        show_all(job, &mut lent, &mut text);
+        return show_one(rt, job, terminal, place, &mut lent, &mut text);
     }
+    show_all(rt, job, terminal, &mut lent, &mut text)
 }
 
-fn show_from(reader: Reader, keyed: bool, one: bool, place: usize) {
-    let from = input::open(input::INPUT);
-    if from < 0 {
-        return;
-    }
-    let json = input::is_word(FORM, b"json");
+fn show_from(
+    rt: &impl System,
+    reader: Reader,
+    keyed: bool,
+    one: bool,
+    place: usize,
+    terminal: Option<File>,
+) -> bool {
+    let Some(file) = input::open(rt, input::INPUT) else {
+        return false;
+    };
+    let json = input::is_word(rt, FORM, b"json");
+    let mut from = &file;
+    let size = input::size_of(&mut from);
     let job = Job {
         reader,
         keyed,
         style: Style { json, one },
         from,
-        size: input::size_of(from),
+        size,
     };
-    show(job, place);
+    show(rt, job, terminal, place)
 }
 
 // Without keys the reader is one that accepts nothing, and is not asked.
-fn show_with(one: bool, place: usize) {
+fn is_shown(rt: &impl System, one: bool, place: usize, terminal: Option<File>) -> bool {
     let mut room = [0u8; 65];
-    if input::is_word(input::KEYS, b"-") {
+    if input::is_word(rt, input::KEYS, b"-") {
         let none = reading::started(input::of(&room, 0));
-        show_from(none.reader, false, one, place);
-        return;
+        return show_from(rt, none.reader, false, one, place, terminal);
     }
-    let n = input::keys(&mut room);
+    let n = input::keys(rt, &mut room);
     if n == 0 {
-        return;
+        return false;
     }
     let s = reading::started(input::of(&room, n));
-    show_from(s.reader, true, one, place);
+    show_from(rt, s.reader, true, one, place, terminal)
 }
 
-pub fn show_image() {
-    if input::is_word(PLACE, b"all") {
-        show_with(false, 0);
+fn show_with(rt: &impl System, one: bool, place: usize) {
+    let word = lent::word(rt);
+    let terminal = lent::terminal(rt);
+    if is_shown(rt, one, place, terminal) {
+        lent::report(word);
+    }
+}
+
+pub fn show_image(rt: &impl System) {
+    if input::is_word(rt, PLACE, b"all") {
+        show_with(rt, false, 0);
         return;
     }
-    let place = sealing::number(PLACE, 4294967295);
-    let Number::Is(p) = place else {
-        tell::plain(b"the place is not a number below 4,294,967,296: give it in decimal digits");
+    let Number::Is(p) = sealing::number(rt, PLACE, 4294967295) else {
+        tell::plain(
+            rt,
+            "the place is not a number below 4,294,967,296: give it in decimal digits",
+        );
         return;
     };
-    show_with(true, p as usize);
+    show_with(rt, true, p as usize);
 }
