@@ -1,11 +1,7 @@
 // What is read: the keys, and the input a piece at a time. A read that fails is told from an end.
-ghost use Rattle.std.specs.Prelude.{◌≤◌, length, IfOk};
-
-use crate::tell;
 use octets_slice::smaller;
 use std::env::Env;
-use std::fs::OpenOptions;
-use std::io::{self, Error, ErrorKind, Read, Seek, SeekFrom};
+use std::io::{Read, Seek, SeekFrom};
 use std::rt::Files;
 
 // The arguments that name files.
@@ -22,36 +18,16 @@ pub fn is_word(rt: &impl Env, i: usize, word: &[u8]) -> bool {
     }
 }
 
-// Opens the file that argument i names. `dock` gives every name in UTF-8.
-pub fn open_as<R: Files + Env>(rt: &R, i: usize, how: &OpenOptions) -> io::Result<R::File> {
-    let mut room = [0u8; 4096];
-    let Ok(n) = rt.arg(i, &mut room) else {
-        return Err(Error::from(ErrorKind::InvalidFilename));
-    };
-    match std::str::from_utf8(&room[..n]) {
-        Ok(path) => how.open(rt, path),
-        Err(_) => Err(Error::from(ErrorKind::InvalidFilename)),
-    }
-}
-
 // Opens the file that argument i names, or tells why not. No name is written to the terminal: it may hold bytes that the terminal obeys.
 pub fn open<R: Files + Env + Eprint + Alloc>(rt: &R, i: usize) -> Option<R::File> {
-    let mut how = OpenOptions::new();
-    how.read(true);
-    match open_as(rt, i, &how) {
-        Ok(file) => Some(file),
-        Err(e) => {
-            cannot_open(rt, i, &e);
-            None
-        }
-    }
+    streams::opened(rt, i, cannot_open(i))
 }
 
-fn cannot_open<E: Eprint + Alloc>(rt: &E, i: usize, why: &Error) {
+fn cannot_open(i: usize) -> &'static str {
     if i == KEYS {
-        streams::tell(rt, "dock: the key file cannot be opened, check its permissions", why);
+        "dock: the key file cannot be opened, check its permissions"
     } else {
-        streams::tell(rt, "dock: the input cannot be opened, check its permissions", why);
+        "dock: the input cannot be opened, check its permissions"
     }
 }
 
@@ -75,21 +51,8 @@ pub fn fill<E: Eprint + Alloc, F: Read>(
     want: usize,
 ) -> Option<usize> {
     let end = smaller(buf.len(), want);
-    let mut at: usize = 0;
-    while at < end {
-        match more(rt, file, &mut buf[at..end]) {
-            Ok(0) => break,
-            Ok(n) => at += n,
-            Err(_) => return None,
-        }
-    }
-    Some(at)
-}
-
-fn more<E: Eprint + Alloc, F: Read>(rt: &E, file: &mut F, part: &mut [u8]) -> io::Result<usize>
-    ensures { IfOk result (λ n. n ≤ length part.new) }
-{
-    streams::read_part(rt, file, part, "dock: a read failed, check the disk and start again")
+    let failed = "dock: a read failed, check the disk and start again";
+    streams::read_full(rt, file, &mut buf[..end], failed).ok()
 }
 
 // Two keys of equal size, or none if their file is wrong, which is told: how many bytes they have.
@@ -120,17 +83,13 @@ fn is_two_keys(n: usize) -> bool {
 }
 
 fn wrong_size(rt: &impl Eprint, n: usize) {
-    tell::say(rt, "dock: the key file has ");
-    if n == 65 {
-        tell::say(rt, "more than 64 bytes");
+    let rule =
+        "it must hold the encryption key and then the check key, of the same size, 32, 48 or 64 bytes in all";
+    let _ = if n == 65 {
+        eprintln!(rt; "dock: the key file has more than 64 bytes: {rule}")
     } else {
-        tell::number(rt, n as u64);
-        tell::say(rt, " bytes");
-    }
-    tell::say(
-        rt,
-        ": it must hold the encryption key and then the check key, of the same size, 32, 48 or 64 bytes in all\n",
-    );
+        eprintln!(rt; "dock: the key file has {n} bytes: {rule}")
+    };
 }
 
 pub fn encryption_key(keys: &[u8]) -> &[u8] {

@@ -1,17 +1,23 @@
 // The output: written to the temporary file that `dock` has made next to it, and on the disk before it is called complete.
-use crate::input;
 use std::env::Env;
 use std::fs::{File, OpenFile, OpenOptions};
-use std::io::Write;
+use std::io::{self, Error, ErrorKind, Write};
 use std::rt::Files;
 
 const TEMPORARY: usize = 4;
 
+fn opened<R: Files + Env>(rt: &R) -> io::Result<R::File> {
+    let mut room = [0u8; 4096];
+    let size = rt.arg(TEMPORARY, &mut room).unwrap_or(0);
+    match std::str::from_utf8(&room[..size]) {
+        Ok(name) => OpenOptions::new().read(true).write(true).open(rt, name),
+        Err(_) => Err(Error::from(ErrorKind::InvalidFilename)),
+    }
+}
+
 // Opens the temporary file, which is there already, or tells why not.
 pub fn open<R: Files + Env + Eprint + Alloc>(rt: &R) -> Option<R::File> {
-    let mut how = OpenOptions::new();
-    how.read(true).write(true);
-    match input::open_as(rt, TEMPORARY, &how) {
+    match opened(rt) {
         Ok(file) => Some(file),
         Err(e) => {
             streams::tell(

@@ -190,7 +190,15 @@ fn turn(
         return stopped(s);
     }
     let k = left(job.count as usize, i * 128, 128);
-    put_blocks(rt, keys, job, s, k, octets_slice::part(payload, 0, n), blocks)
+    put_blocks(
+        rt,
+        keys,
+        job,
+        s,
+        k,
+        octets_slice::part(payload, 0, n),
+        blocks,
+    )
 }
 
 // A byte behind the size that the file had at the start.
@@ -283,13 +291,7 @@ fn seal_job(rt: &impl System, keys: &[u8], job: Job<'_>, terminal: Option<File>)
     );
 }
 
-fn seal_from(
-    rt: &impl System,
-    keys: &[u8],
-    release: u32,
-    edition: u32,
-    terminal: Option<File>,
-) {
+fn seal_from(rt: &impl System, keys: &[u8], release: u32, edition: u32, terminal: Option<File>) {
     let Some(file) = input::open(rt, input::INPUT) else {
         return;
     };

@@ -1,8 +1,6 @@
 // The headers of an image's blocks, as they stand there: of all, by a view of at most 128 blocks at a time, or of one. Under keys also
 // what a reader says of each block by itself.
-use crate::{
-    alone, card, clock, heads, input, lent, lines, reading, sealing, system, tell,
-};
+use crate::{alone, card, clock, heads, input, lent, lines, reading, sealing, system, tell};
 use alone::Payload;
 use heads::{Seen, Style};
 use image_layout::Head;
@@ -51,13 +49,7 @@ pub struct Range {
 // ---- one block
 
 // Without keys there is no answer, and 0 stands for it.
-fn answer(
-    job: Job<'_>,
-    head: Head,
-    last: [u8; 16],
-    block: &[u8],
-    payload: &mut Payload,
-) -> u32 {
+fn answer(job: Job<'_>, head: Head, last: [u8; 16], block: &[u8], payload: &mut Payload) -> u32 {
     if !job.keyed {
         return 0;
     }
@@ -65,13 +57,7 @@ fn answer(
 }
 
 // A block that a view shows: its answer is found and all of it is put.
-fn show_block(
-    rt: &impl System,
-    job: Job<'_>,
-    s: Shown,
-    block: &[u8],
-    text: &mut Text,
-) -> Shown {
+fn show_block(rt: &impl System, job: Job<'_>, s: Shown, block: &[u8], text: &mut Text) -> Shown {
     let mut payload = [0u8; 480];
     let head = image_layout::head_of(octets_block::load(block, 0));
     let last = s.last;
@@ -107,13 +93,7 @@ fn show_at(
     show_block(rt, job, s, image_view::block_part(lent, j), text)
 }
 
-fn show_turn(
-    rt: &impl System,
-    job: Job<'_>,
-    s: Shown,
-    lent: &[u8],
-    text: &mut Text,
-) -> Shown {
+fn show_turn(rt: &impl System, job: Job<'_>, s: Shown, lent: &[u8], text: &mut Text) -> Shown {
     let mut t = s;
     for j in 0..image_view::blocks(lent) {
         t = show_at(rt, job, t, lent, j, text);
