@@ -1,0 +1,10 @@
+use Rattle.aesavs_monte.specs.Chain.{next_link}
+use Rattle.aesavs_monte.proofs.next_link.Goals as goal
+
+pub returns-then-chained : goal.returns-then-chained
+unfolding next_link
+returns-then-chained c = rw (c.next_key-key.ensures, c.if-chained.true)
+
+pub returns : goal.returns
+unfolding next_link
+returns c = rw (c.next_key-key.ensures, c.if-chained.false)
