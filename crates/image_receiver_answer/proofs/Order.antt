@@ -2,15 +2,12 @@
 use mathlib.Core.Path.{◌≡◌, refl, sym, ap, ◌∙◌}
 use mathlib.Core.Bool.{Bool, true, false, true≢false, cond}
 use mathlib.Core.List.{List, [], ◌∷◌, ◌++◌}
-use types.Run.{OneOf, miss as not_one}
-use denote.Enum.Declared.{tag_of}
 use borrow.Author.Tests.{ltb-true, not-false}
 use lib.Dec.{ltb}
 use Prim.Native.Nat.{◌<◌}
 use Rattle.image_layout.specs.declared.Head.{Head}
 use Rattle.image_receiver_answer.specs.Answers.{first_told, header_tests, accepted}
 use Rattle.image_receiver_answer.specs.declared.Receipt.{Receipt}
-use Rattle.image_receiver_answer.specs.contracts.ReceiveAnswer.{the_type}
 use Rattle.image_receiver_answer.specs.declared.ReceiveAnswer.{ReceiveAnswer}
 use Rattle.image_receiver_answer.specs.declared.ReceiveAnswer.TheVariants.{Received, NotABlock, NoRoom, Because, NotBelow, AlreadyHeld}
 
@@ -37,9 +34,9 @@ sooner a b = cond (accepted a) b a
 abbrev pub Refuses : ReceiveAnswer → Type 0
 Refuses a = accepted a ≡ false
 
--- every case but the first, as a match has it
-pub refuses_else : (a : ReceiveAnswer) → OneOf (1 ∷ 2 ∷ 3 ∷ 4 ∷ 5 ∷ []) (tag_of the_type a) → Refuses a
-refuses_else Received h = absurd (not_one (1 ∷ 2 ∷ 3 ∷ 4 ∷ 5 ∷ []) 0 tt h)
+-- every case but the first
+pub refuses_else : (a : ReceiveAnswer) → (a ≡ Received → ⊥) → Refuses a
+refuses_else Received h = absurd (h refl)
 refuses_else NotABlock h = refl
 refuses_else NoRoom h = refl
 refuses_else (Because reason) h = refl

@@ -1,15 +1,14 @@
 -- What the code leaves of a block's place in the store, over the schedule that it makes for the way back, is what AES opens. Assumes nothing.
-use mathlib.Core.Path.{◌≡◌, refl, sym, ap, ap₂, ◌∙◌}
-use mathlib.Core.Bool.{Bool, true, false, ◌&&◌}
+use mathlib.Core.Path.{◌≡◌, sym, ap, ◌∙◌}
+use mathlib.Core.Bool.{Bool, true}
 use mathlib.Core.List.{List, ◌++◌, append_assoc}
-use Prim.Native.Nat.{ℕ, ◌+◌, ◌-◌, ◌*◌, ◌/◌, ◌≤◌, ◌<◌}
+use Prim.Native.Nat.{ℕ, ◌+◌, ◌-◌, ◌*◌, ◌≤◌}
 use native.Mathlib.Omega.{arith}
 use borrow.Author.Tests.{leb-true, eq-eqb}
 use lib.Dec.{leb}
 use lib.ListN.{length, take, drop}
-use lib.Seq.{paste, take_all, drop-drop}
+use lib.Seq.{take_all, drop-drop}
 use Rattle.octets.specs.Octets.{Octets}
-use Rattle.octets.specs.Blocks.{BlockCipher}
 use Rattle.octets.proofs.Both.{and_true}
 use Rattle.aes_sbox.specs.Sbox.{s_box, inv_s_box}
 use Rattle.aes_schedule.specs.Schedule.{round_count}

@@ -1,5 +1,5 @@
 -- One block received: its tests in their order, and what it leaves (docs/IMAGE.md, docs/REFUSALS.md). Assumes nothing: these are definitions.
-use Rattle.std.specs.Prelude.{ℕ, ◌+◌, ◌*◌, min, Bool, true, false, ◌&&◌, not, cond, List, [], ◌∷◌, ◌++◌, length}
+use Rattle.std.specs.Prelude.{ℕ, ◌+◌, ◌*◌, min, Bool, ◌&&◌, not, cond, List, [], ◌∷◌, ◌++◌, length}
 use Rattle.std.proofs.Math.Seq.{paste}
 use Rattle.octets.specs.Blocks.{BlockCipher}
 use Rattle.image_layout.specs.Layout.{body_size, head_of_lem}

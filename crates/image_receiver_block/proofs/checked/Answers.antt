@@ -1,0 +1,16 @@
+use mathlib.Core.Path.{◌≡◌, ap, ◌∙◌}
+use mathlib.Core.Bool.{Bool, ◌&&◌}
+use mathlib.Core.List.{[]}
+use Rattle.aes_spec.specs.Cipher.{standard}
+use Rattle.cmac_spec.specs.Cmac.{doubled, key2}
+use Rattle.image_spec.specs.KeyPair.{usable}
+use Rattle.image_spec.proofs.Agree.{checks_same}
+use Rattle.image_receiver_block.proofs.checked.Goals as goal
+
+pub returns : goal.returns
+unfolding key2
+returns c = let k2 = c in
+    let k1 = k2 in
+    let a = k1.args in
+    let e2 : k2.key2-key2.result ≡ key2 (standard a.cwords.now a.rounds.chk) = k2.key2-key2.ensures ∙ ap doubled k1.key1-key1.ensures in
+    c.check_holds.ensures ∙ ap (λ (t : Bool). usable a.rounds && t) (checks_same a.cwords.now a.rounds.chk _ _ k1.key1-key1.ensures e2 [] a.block.now)
