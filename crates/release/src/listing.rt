@@ -156,7 +156,6 @@ fn is_whole(rt: &impl System, reader: Reader, s: Source<'_>, terminal: Option<Fi
 }
 
 pub fn list_image(rt: &impl System) {
-    let word = lent::word(rt);
     let terminal = lent::terminal(rt);
     let mut room = [0u8; 65];
     let n = input::keys(rt, &mut room);
@@ -172,6 +171,6 @@ pub fn list_image(rt: &impl System) {
         json: input::is_word(rt, FORM, b"json"),
     };
     if is_whole(rt, s.reader, source, terminal) {
-        lent::report(word);
+        streams::report(rt, b"whole\n");
     }
 }

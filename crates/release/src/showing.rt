@@ -401,10 +401,9 @@ fn is_shown(rt: &impl System, one: bool, place: usize, terminal: Option<File>) -
 }
 
 fn show_with(rt: &impl System, one: bool, place: usize) {
-    let word = lent::word(rt);
     let terminal = lent::terminal(rt);
     if is_shown(rt, one, place, terminal) {
-        lent::report(word);
+        streams::report(rt, b"whole\n");
     }
 }
 

@@ -118,8 +118,35 @@ pub fn is_given<R: Env>(rt: &R, i: usize) -> bool {
 
 // Puts a word into descriptor 3, which `dock` lends a program for its word that all went well. Nothing happens where it lends none.
 pub fn report<R: Files>(rt: &R, word: &[u8]) {
+    if !is_lent(rt) {
+        return;
+    }
     if let Ok(mut lent) = OpenOptions::new().append(true).open(rt, "/proc/self/fd/3") {
         let _ = lent.write_all(word);
+    }
+}
+
+// Where nothing is lent, a file that the program has opened to read it may have the number, and no word belongs there.
+fn is_lent<R: Files>(rt: &R) -> bool {
+    let mut room = [0u8; 128];
+    let Ok(mut file) = File::open(rt, "/proc/self/fdinfo/3") else {
+        return false;
+    };
+    let size = file.read(&mut room).unwrap_or(0);
+    match str::from_utf8(&room[..size]) {
+        Ok(info) => is_writable(info),
+        Err(_) => false,
+    }
+}
+
+// What the system says of a descriptor has its flags in octal, of which the last digit is how it was opened: 0 to read, 1 to write, 2 for both.
+fn is_writable(info: &str) -> bool {
+    let Some((_, behind)) = info.split_once("flags:\t") else {
+        return false;
+    };
+    match behind.split_once('\n') {
+        Some((flags, _)) => flags.ends_with('1') || flags.ends_with('2'),
+        None => false,
     }
 }
 
@@ -156,6 +183,14 @@ mod tests {
         assert_eq!(rt; part, [5, 4, 3]);
         let second = read_full(&rt, &mut slow, &mut part, "a test of a failed read");
         assert!(rt; second.is_err());
+    }
+
+    #[test]
+    fn tells_how_a_descriptor_was_opened(rt: HostRuntime) {
+        assert!(rt; is_writable("pos:\t0\nflags:\t0100002\nmnt_id:\t15\n"));
+        assert!(rt; is_writable("pos:\t0\nflags:\t02001\nmnt_id:\t15\n"));
+        assert!(rt; !is_writable("pos:\t0\nflags:\t0100000\nmnt_id:\t15\n"));
+        assert!(rt; !is_writable(""));
     }
 
     #[test]
