@@ -2,7 +2,6 @@ use Rattle.modes.proofs.Calls.{refused_keeps, refused_zeros, same_applied, answe
 use Rattle.octets.specs.Octets.{Bytes}
 use mathlib.Core.Path.{sym}
 use native.Mathlib.Omega.{arith}
-use borrow.Author.Rules.{rules}
 use Rattle.modes.proofs.apply.Goals as goal
 
 pub returns-in_default : goal.returns-in_default

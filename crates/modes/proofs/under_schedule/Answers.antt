@@ -4,7 +4,6 @@ use Rattle.modes_run.specs.Model.{run_over}
 use Rattle.aes_spec.specs.Model.{one_way, inverse_words}
 use mathlib.Core.List.{List}
 use mathlib.Core.Path.{sym, ap, ◌∙◌}
-use borrow.Author.Rules.{rules}
 use Rattle.modes.proofs.under_schedule.Goals as goal
 
 pub returns-then-inverts : goal.returns-then-inverts

@@ -1,7 +1,7 @@
-use Prim.Native.Nat.{ℕ, ◌*◌, ◌-◌, ◌≤◌}
-use mathlib.Core.List.{List, ◌++◌}
+use Prim.Native.Nat.{ℕ, ◌*◌}
+use mathlib.Core.List.{List}
 use mathlib.Core.Path.{◌≡◌, refl, sym, ap, ap₂, ◌∙◌}
-use lib.ListN.{length, drop}
+use lib.ListN.{length}
 use lib.Seq.{paste}
 use Rattle.octets.specs.Blocks.{◌⊕◌}
 use Rattle.aes_spec.specs.Model.{one_way}

@@ -1,17 +1,11 @@
-use Prim.Native.Nat.{ℕ, ◌*◌, ◌-◌, ◌≤◌}
-use mathlib.Core.List.{List, ◌++◌}
-use mathlib.Core.Path.{◌≡◌, refl, sym, ap, ap₂, ◌∙◌}
+use Prim.Native.Nat.{◌*◌, ◌≤◌}
+use mathlib.Core.List.{◌++◌}
+use mathlib.Core.Path.{◌≡◌}
 use lib.ListN.{length, drop}
-use lib.Seq.{paste}
-use Rattle.octets.specs.Blocks.{◌⊕◌}
 use Rattle.aes_spec.specs.Model.{one_way}
 use Rattle.modes_spec.specs.Modes.{machine}
-use Rattle.modes_spec.specs.Pieces.{piece, output_of, after}
+use Rattle.modes_spec.specs.Pieces.{output_of, after}
 use Rattle.modes_spec.specs.declared.Operation.TheVariants.{CbcDecrypt}
-use Rattle.octets_block.proofs.Laws.{block-at, block_put}
-use Rattle.modes_whole.proofs.Runs.{write_more, more_length, more_after}
-use borrow.Author.Rules.{rules}
-use native.Mathlib.Omega.{arith}
 use Rattle.modes_whole.proofs.opened.Given as goal
 
 abbrev pub invariant-loop-i : goal.invariant-loop-i

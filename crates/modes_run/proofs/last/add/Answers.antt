@@ -1,8 +1,7 @@
 use mathlib.Core.Path.{◌≡◌, refl, sym, ◌∙◌}
-use Prim.Native.Nat.{◌≤◌, ◌-◌}
-use lib.ListN.{length, get_or}
+use lib.ListN.{length}
 use Rattle.octets.specs.Octets as octets
-use Rattle.octets.proofs.Fill.{Filled, filled_none, filled_more, filled_all}
+use Rattle.octets.proofs.Fill.{filled_none, filled_more, filled_all}
 use Rattle.octets_block.proofs.Laws.{sum_tabulate}
 use borrow.Author.Rules.{rules}
 use native.Mathlib.Omega.{arith}

@@ -1,11 +1,8 @@
-use mathlib.Core.Path.{◌≡◌, refl, sym, ◌∙◌}
-use Prim.Native.Nat.{◌≤◌, ◌-◌}
+use mathlib.Core.Path.{◌≡◌}
+use Prim.Native.Nat.{◌≤◌}
 use lib.ListN.{length, get_or}
 use Rattle.octets.specs.Octets as octets
-use Rattle.octets.proofs.Fill.{Filled, filled_none, filled_more, filled_all}
-use Rattle.octets_block.proofs.Laws.{sum_tabulate}
-use borrow.Author.Rules.{rules}
-use native.Mathlib.Omega.{arith}
+use Rattle.octets.proofs.Fill.{Filled}
 use Rattle.modes_run.proofs.last.add.Given as goal
 
 abbrev pub invariant-loop-i : goal.invariant-loop-i
