@@ -1,5 +1,4 @@
 use Rattle.cmac.proofs.Under.{check_under}
-use borrow.Author.Rules.{rules}
 use Rattle.cmac.proofs.check.Goals as goal
 
 pub returns : goal.returns

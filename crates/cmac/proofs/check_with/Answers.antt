@@ -1,7 +1,6 @@
 use mathlib.Core.Path.{◌∙◌}
 use Rattle.aes_spec.specs.Cipher.{standard}
 use Rattle.cmac_run.proofs.Laws.{whole_fed}
-use borrow.Author.Rules.{rules}
 use Rattle.cmac.proofs.check_with.Goals as goal
 
 pub returns : goal.returns

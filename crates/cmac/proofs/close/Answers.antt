@@ -1,6 +1,5 @@
 use mathlib.Core.Path.{◌∙◌}
 use Rattle.cmac.proofs.Under.{close_under}
-use borrow.Author.Rules.{rules}
 use Rattle.cmac.proofs.close.Goals as goal
 
 pub returns : goal.returns

@@ -2,7 +2,6 @@ use mathlib.Core.Path.{◌∙◌}
 use Rattle.cmac_spec.specs.Cmac.{key2}
 use Rattle.aes_spec.specs.Cipher.{standard}
 use Rattle.cmac_run.proofs.Laws.{closed-by}
-use borrow.Author.Rules.{rules}
 use Rattle.cmac.proofs.close_run.Goals as goal
 
 pub returns : goal.returns

@@ -1,6 +1,5 @@
 use mathlib.Core.Path.{◌∙◌}
 use Rattle.cmac.proofs.Under.{fed_under}
-use borrow.Author.Rules.{rules}
 use Rattle.cmac.proofs.fed_with.Goals as goal
 
 pub returns : goal.returns

@@ -1,5 +1,4 @@
 use Rattle.cmac.specs.Calls.{start_of}
-use borrow.Author.Rules.{rules}
 use Rattle.cmac.proofs.start.Goals as goal
 
 pub returns : goal.returns

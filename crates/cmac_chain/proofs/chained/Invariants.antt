@@ -1,13 +1,8 @@
-use mathlib.Core.Path.{◌≡◌, refl, sym, ◌∙◌}
-use Prim.Native.Nat.{◌≤◌, ◌+◌, ◌*◌, ◌/◌, ◌-◌}
-use native.Mathlib.Nat.{sub-zero}
-use native.Mathlib.Omega.{arith}
-use borrow.Author.Tests.{le-leb}
+use mathlib.Core.Path.{◌≡◌}
+use Prim.Native.Nat.{◌≤◌, ◌*◌, ◌/◌, ◌-◌}
 use lib.ListN.{length, drop}
 use Rattle.cmac_spec.specs.Cmac as spec
 use Rattle.aes_spec.specs.Cipher.{standard}
-use Rattle.cmac_spec.proofs.Chain.{chained_turn, chained_end}
-use borrow.Author.Rules.{rules}
 use Rattle.cmac_chain.proofs.chained.Given as goal
 
 abbrev pub invariant-loop-i : goal.invariant-loop-i

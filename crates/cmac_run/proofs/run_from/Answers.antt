@@ -4,7 +4,6 @@ use Rattle.aes_spec.specs.Cipher.{standard}
 use Rattle.cmac_spec.proofs.Filling.{to_end}
 use Rattle.cmac_run.proofs.Laws.{taken_holding, chained_part}
 use native.Mathlib.Omega.{arith}
-use borrow.Author.Rules.{rules}
 use Rattle.cmac_run.proofs.run_from.Goals as goal
 
 pub returns : goal.returns

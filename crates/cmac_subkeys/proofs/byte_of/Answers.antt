@@ -1,7 +1,6 @@
 use mathlib.Core.Path.{sym}
 use borrow.Author.Tests.{lt-ltb, le-ltb}
 use lib.ListN.{get_or-eq_default}
-use borrow.Author.Rules.{rules}
 use Rattle.cmac_subkeys.proofs.byte_of.Goals as goal
 
 pub returns-then-i-count : goal.returns-then-i-count

@@ -1,6 +1,5 @@
 use mathlib.Core.Path.{◌∙◌, ap}
 use Rattle.cmac_spec.specs.Cmac.{doubled, key1}
-use borrow.Author.Rules.{rules}
 use Rattle.cmac_subkeys.proofs.key1.Goals as goal
 
 pub returns : goal.returns

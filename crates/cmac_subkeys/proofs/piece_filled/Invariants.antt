@@ -1,10 +1,7 @@
-use mathlib.Core.Path.{refl, sym, ◌∙◌}
 use mathlib.Core.List.{◌++◌}
-use Prim.Native.Nat.{◌≤◌, ◌-◌}
+use Prim.Native.Nat.{◌≤◌}
 use lib.ListN.{get_or, take}
-use Rattle.octets.proofs.Fill.{Filled, filled_none, filled_more, filled_all}
-use Rattle.cmac_spec.proofs.Filling.{filled_byte, piece_tabulate}
-use borrow.Author.Rules.{rules}
+use Rattle.octets.proofs.Fill.{Filled}
 use Rattle.cmac_subkeys.proofs.piece_filled.Given as goal
 
 abbrev pub invariant-loop-i : goal.invariant-loop-i

@@ -5,7 +5,6 @@ use mathlib.Core.Path.{◌∙◌, refl}
 use Rattle.aes_spec.specs.Model.{one_way}
 use Rattle.wrap.proofs.Building.{opened_by, opened_size}
 use native.Mathlib.Omega.{arith}
-use borrow.Author.Rules.{rules}
 use Rattle.wrap.proofs.opened.Goals as goal
 
 pub returns : goal.returns

@@ -1,7 +1,6 @@
 use Rattle.octets.specs.Octets.{Bytes}
 use Rattle.wrap.proofs.Calls.{unwrap_refused, unwrap_kept, unwrap_fits, unwrap_answered, unwrapped_by}
 use native.Mathlib.Omega.{arith}
-use borrow.Author.Rules.{rules}
 use Rattle.wrap.proofs.unwrap.Goals as goal
 
 pub returns-in_default : goal.returns-in_default

@@ -1,10 +1,8 @@
 use Rattle.octets_slice.proofs.Laws.{copied_fits}
 use native.Mathlib.Omega.{arith}
 use mathlib.Core.Path.{◌∙◌}
-use borrow.Author.Tests.{not-true, not-false}
 use Rattle.aes_spec.specs.Model.{one_way}
 use Rattle.wrap.proofs.Building.{opened_wrong, opened_right}
-use borrow.Author.Rules.{rules}
 use Rattle.wrap.proofs.unwrap_into.Goals as goal
 
 pub returns-then-not-is_initial : goal.returns-then-not-is_initial

@@ -1,5 +1,4 @@
 use Rattle.wrap.proofs.Calls.{wrap_answered, wrap_kept, wrap_fits, wrapped_by}
-use borrow.Author.Rules.{rules}
 use Rattle.wrap.proofs.wrap.Goals as goal
 
 pub returns-in_default : goal.returns-in_default

@@ -5,7 +5,6 @@ use mathlib.Core.Path.{◌∙◌, refl}
 use Rattle.aes_spec.specs.Cipher.{standard}
 use Rattle.wrap.proofs.Building.{wrapped_over}
 use native.Mathlib.Omega.{arith}
-use borrow.Author.Rules.{rules}
 use Rattle.wrap.proofs.wrap_into.Goals as goal
 
 pub returns : goal.returns

@@ -1,12 +1,8 @@
-use mathlib.Core.Path.{◌≡◌, refl, sym, ap, ◌∙◌}
-use Prim.Native.Nat.{ℕ, ◌+◌, ◌*◌, ◌-◌, ◌≤◌}
+use mathlib.Core.Path.{◌≡◌}
+use Prim.Native.Nat.{◌≤◌}
 use lib.ListN.{length}
 use Rattle.aes_spec.specs.Cipher.{standard}
-use Rattle.wrap_spec.specs.Wrap.{step, pass}
-use Rattle.wrap_registers.proofs.Sizes.{product_fits}
-use Rattle.wrap_spec.proofs.Passing.{pass_none, pass_more}
-use borrow.Author.Rules.{rules}
-use native.Mathlib.Omega.{arith}
+use Rattle.wrap_spec.specs.Wrap.{pass}
 use Rattle.wrap_registers.proofs.pass.Given as goal
 
 abbrev pub invariant-loop-m : goal.invariant-loop-m

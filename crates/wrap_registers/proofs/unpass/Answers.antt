@@ -1,9 +1,7 @@
 use mathlib.Core.Path.{◌≡◌, refl, sym, ap, ◌∙◌}
-use Prim.Native.Nat.{ℕ, ◌*◌, ◌-◌, ◌≤◌}
-use lib.ListN.{length}
+use Prim.Native.Nat.{ℕ, ◌-◌}
 use Rattle.aes_spec.specs.Model.{one_way}
 use Rattle.wrap_spec.specs.Wrap.{unpass}
-use Rattle.wrap_registers.proofs.Sizes.{product_fits}
 use Rattle.wrap_spec.proofs.Passing.{unpass_none, unpass_more}
 use borrow.Author.Rules.{rules}
 use native.Mathlib.Omega.{arith}

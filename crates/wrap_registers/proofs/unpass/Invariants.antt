@@ -1,12 +1,8 @@
-use mathlib.Core.Path.{◌≡◌, refl, sym, ap, ◌∙◌}
-use Prim.Native.Nat.{ℕ, ◌*◌, ◌-◌, ◌≤◌}
+use mathlib.Core.Path.{◌≡◌}
+use Prim.Native.Nat.{◌≤◌}
 use lib.ListN.{length}
 use Rattle.aes_spec.specs.Model.{one_way}
 use Rattle.wrap_spec.specs.Wrap.{unpass}
-use Rattle.wrap_registers.proofs.Sizes.{product_fits}
-use Rattle.wrap_spec.proofs.Passing.{unpass_none, unpass_more}
-use borrow.Author.Rules.{rules}
-use native.Mathlib.Omega.{arith}
 use Rattle.wrap_registers.proofs.unpass.Given as goal
 
 abbrev pub invariant-loop-i : goal.invariant-loop-i

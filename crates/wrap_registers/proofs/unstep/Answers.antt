@@ -2,7 +2,6 @@ use mathlib.Core.Path.{◌∙◌}
 use Rattle.aes_spec.specs.Model.{one_way}
 use Rattle.wrap_spec.proofs.Passing.{unstep_by}
 use native.Mathlib.Omega.{arith}
-use borrow.Author.Rules.{rules}
 use Rattle.wrap_registers.proofs.unstep.Goals as goal
 
 pub returns : goal.returns

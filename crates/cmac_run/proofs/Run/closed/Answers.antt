@@ -1,7 +1,6 @@
 use mathlib.Core.Path.{◌∙◌}
 use Rattle.cmac_spec.specs.Cmac.{ended_by}
 use Rattle.cmac_run.specs.Running as running
-use borrow.Author.Rules.{rules}
 use Rattle.cmac_run.proofs.Run.closed.Goals as goal
 
 pub returns : goal.returns

@@ -1,7 +1,5 @@
 use mathlib.Core.Path.{refl}
-use Prim.Native.Nat.{◌≤◌, ◌+◌, ◌-◌, ◌*◌, ◌/◌, ◌%◌}
-use lib.ListN.{get_or}
-use Rattle.octets.proofs.Fill.{Filled, filled_none, filled_more}
+use Rattle.octets.proofs.Fill.{filled_none, filled_more}
 use Rattle.cmac_spec.proofs.Filling.{shifted_end}
 use borrow.Author.Rules.{rules}
 use native.Mathlib.Omega.{arith}

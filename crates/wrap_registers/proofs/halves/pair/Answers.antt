@@ -1,8 +1,8 @@
-use Prim.Native.Nat.{ℕ, ◌-◌, ◌≤◌, ◌+◌, ◌*◌, suc}
+use Prim.Native.Nat.{ℕ, ◌+◌, ◌*◌, suc}
 use mathlib.Core.List.{List}
 use Rattle.wrap_registers.proofs.Places.{paired}
 use mathlib.Core.Path.{◌≡◌, ap, ◌∙◌}
-use lib.ListN.{length, drop, length-set, length-drop}
+use lib.ListN.{drop, length-set, length-drop}
 use lib.Seq.{paste, paste-zero, paste-suc, get_or-drop}
 use borrow.Author.Rules.{rules}
 use native.Mathlib.Omega.{arith}
