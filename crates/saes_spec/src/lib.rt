@@ -1,7 +1,6 @@
 // Only types: Simplified AES, the bench model for apprentices, and that each direction undoes the other.
 #![tactic(auto)]
 
-
 // Two nibbles: a word of the key, or a column of a state with the nibble of row 0 first.
 #[derive(Clone, Copy)]
 pub struct Word {

@@ -12,7 +12,7 @@ use borrow.Author.Rules.{rules}
 use Rattle.aes.proofs.decrypt.Goals as goal
 
 pub returns : goal.returns
-returns c =     let s = c in
+returns c = let s = c in
     let f = c.schedule_into-rounds in
     let o : Octets 16 s.args.block = record { size = search rules; bytes = λ k. (let h : Fits w8 (get_or s.args.block k 0) = search rules in h.fits) } in
     decrypt-under s.args.key.now s.args.block f.result _ _ _ o f.ensures c.answer_of-answer.ensures

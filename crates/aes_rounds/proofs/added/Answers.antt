@@ -15,7 +15,7 @@ use Rattle.aes_rounds.proofs.added.Goals as goal
 
 pub returns : goal.returns
 unfolding xor columns_of
-returns c =     let f = c.columns_of-s in
+returns c = let f = c.columns_of-s in
     let a = c.args in
     let o : Octets 16 a.v = record { size = search rules; bytes = λ k. (let h : Fits w8 (get_or a.v k 0) = search rules in h.fits) } in
     let b : Bytes a.part.now = λ k. omega (arith, c.shared_slice_known-1.given k) in

@@ -11,7 +11,7 @@ cipher-requires c = round-count c.args.rounds (sym c.is_round_count.ensures ∙ 
 
 pub returns-then-is_round_count : goal.returns-then-is_round_count
 unfolding encrypt_block
-returns-then-is_round_count c =     let a = c.args in
+returns-then-is_round_count c = let a = c.args in
     simp (sym c.is_round_count.ensures ∙ c.if-is_round_count.true)
     (c.block_of-r.ensures ∙ c.cipher.ensures ∙ ap (cipher aes s_box a.words.now a.rounds) c.added.ensures)
 

@@ -18,7 +18,7 @@ eq_inv_cipher-requires c = round-count c.args.rounds (sym c.is_round_count.ensur
 
 pub returns-then-is_round_count : goal.returns-then-is_round_count
 unfolding eq_decrypt_block
-returns-then-is_round_count c =     let a = c.args in
+returns-then-is_round_count c = let a = c.args in
     let o : Octets 16 a.block = record { size = search rules; bytes = λ k. (let h : Fits w8 (get_or a.block k 0) = search rules in h.fits) } in
     simp (sym c.is_round_count.ensures ∙ c.if-is_round_count.true)
     (c.block_of.ensures ∙ c.eq_inv_cipher.ensures

@@ -13,7 +13,7 @@ pub loop-i-init : goal.loop-i-init
 loop-i-init c = (refl, (search rules, mixed_none _ _ _ (omega arith)))
 
 pub loop-i-preserved : goal.loop-i-preserved
-loop-i-preserved c =     let l = c.loop-i in
+loop-i-preserved c = let l = c.loop-i in
     let a = c.args in
     let e : min l.i a.end ≡ l.i = omega arith in
     let f : min (l.i + 1) a.end ≡ l.i + 1 = omega arith in
@@ -28,6 +28,6 @@ loop-i-preserved c =     let l = c.loop-i in
     )
 
 pub returns : goal.returns
-returns c =     let l = c.loop-i in
+returns c = let l = c.loop-i in
     let e : min l.i c.args.end ≡ c.args.end = omega arith in
     rw e at l.invariant.1.1

@@ -15,4 +15,4 @@ invariant-loop-i l = (length l.words ≡ length l.initial.words) × ((l.from ≤
 -- MEASURES
 -- abbrev pub decreases-loop-i : goal.decreases-loop-i
 -- decreases-loop-i l = l.end - l.i
--- 
+--

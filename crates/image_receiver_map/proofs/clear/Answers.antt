@@ -12,13 +12,13 @@ pub loop-i-init : goal.loop-i-init
 loop-i-init c = (omega arith, refl, refl)
 
 pub loop-i-preserved : goal.loop-i-preserved
-loop-i-preserved c =     let l = c.loop-i in
+loop-i-preserved c = let l = c.loop-i in
     let m = c.args.map.now in
     (omega arith, simp length-set (omega arith), rw l.invariant.2 (cleared_more m l.i (omega (arith, c.shorter-end.ensures))))
 
 pub returns : goal.returns
 unfolding cleared
-returns c =     let l = c.loop-i in
+returns c = let l = c.loop-i in
     let a = c.args in
     let e : l.i ≡ min a.size (length a.map.now) = omega (arith, c.shorter-end.ensures) in
     l.invariant.2 ∙ ap (λ (k : ℕ). replicate k 0 ++ drop k a.map.now) e

@@ -14,4 +14,4 @@ invariant-loop-i l = (l.i ≤ l.end) × (length l.map ≡ length l.initial.map) 
 -- MEASURES
 -- abbrev pub decreases-loop-i : goal.decreases-loop-i
 -- decreases-loop-i l = l.end - l.i
--- 
+--

@@ -10,10 +10,10 @@ pub returns-then-is_set : goal.returns-then-is_set
 returns-then-is_set c = let a = c.args in with_set a.byte a.k (sym c.is_set.ensures ∙ c.if-is_set.true)
 
 pub overflow_add-result : goal.overflow_add-result
-overflow_add-result c =     let a = c.args in
+overflow_add-result c = let a = c.args in
     let h = room_for a.byte a.k (search rules) (sym c.is_set.ensures ∙ c.if-is_set.false) in
     record { fits = rw c.worth_of.ensures.0 h }
 
 pub returns : goal.returns
-returns c =     let a = c.args in
+returns c = let a = c.args in
     ap (λ (x : ℕ). a.byte + x) c.worth_of.ensures.0 ∙ with_clear a.byte a.k (sym c.is_set.ensures ∙ c.if-is_set.false)

@@ -8,6 +8,6 @@ use Rattle.aes_rounds.proofs.loops.add_round_key.Goals as goal
 
 pub returns : goal.returns
 unfolding xor
-returns c =     let a = c.args in
+returns c = let a = c.args in
     let e : c.first_word-first.result.0 ≡ 4 * a.n.0 = omega arith in
     rw e (add_law a.words.now a.n.0 a.s.0 a.s.1 a.s.2 a.s.3)

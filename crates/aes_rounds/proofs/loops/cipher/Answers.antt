@@ -15,7 +15,7 @@ use Rattle.aes_rounds.proofs.loops.cipher.Goals as goal
 
 pub returns : goal.returns
 unfolding cipher
-returns c =     let a = c.args in
+returns c = let a = c.args in
     let b = c.last_bytes-last in
     let o : Octets 16 b.result = record { size = search rules; bytes = λ k. (let h : Fits w8 (get_or b.result k 0) = search rules in h.fits) } in
     c.as_columns.ensures ∙ c.add_round_key.ensures

@@ -16,4 +16,4 @@ invariant-loop-n l = ((0 < l.n) × (l.n ≤ l.rounds)) × (bytes_of l.t ≡ roun
 -- MEASURES
 -- abbrev pub decreases-loop-n : goal.decreases-loop-n
 -- decreases-loop-n l = l.rounds - l.n
--- 
+--

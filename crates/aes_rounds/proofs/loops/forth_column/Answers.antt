@@ -15,12 +15,12 @@ loop-k-init c = (search rules, rows_none _ _)
 
 pub loop-k-preserved : goal.loop-k-preserved
 unfolding xor
-loop-k-preserved c =     let a = c.args in
+loop-k-preserved c = let a = c.args in
     let l = c.loop-k in
     (search rules, rows_more (mixed_entry s_box) (from a.t a.j) l.k c.forth_row-acc.result l.acc c.forth_row-acc.ensures l.invariant.1)
 
 pub returns : goal.returns
-returns c =     let a = c.args in
+returns c = let a = c.args in
     let l = c.loop-k in
     let e : l.k ≡ 4 = omega arith in
     l.invariant.1 ∙ ap (rows_of (mixed_entry s_box) (from a.t a.j)) e ∙ column_law a.t a.j

@@ -16,4 +16,4 @@ invariant-loop-k l = (l.k ≤ 4) × (l.acc ≡ rows_of (mixed_entry s_box) (from
 -- MEASURES
 -- abbrev pub decreases-loop-k : goal.decreases-loop-k
 -- decreases-loop-k l = 4 - l.k
--- 
+--

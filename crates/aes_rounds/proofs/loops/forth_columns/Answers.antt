@@ -15,7 +15,7 @@ loop-m-init c = (search rules, round_none _ _ refl)
 
 pub loop-m-preserved : goal.loop-m-preserved
 unfolding xor
-loop-m-preserved c =     let a = c.args in
+loop-m-preserved c = let a = c.args in
     let l = c.loop-m in
     let f = c.forth_column in
     let i = c.first_word-first.result.0 in
@@ -23,6 +23,6 @@ loop-m-preserved c =     let a = c.args in
     (search rules, round_more l.invariant.1 (search rules) _ (keyed_is a.words.now a.n (λ k. mix_column (sub_shifted a.t k)) i _ f.result e f.ensures))
 
 pub returns : goal.returns
-returns c =     let a = c.args in
+returns c = let a = c.args in
     let l = c.loop-m in
     round_law a.words.now a.n a.t l.u (search rules) (round_all l.invariant.1 (search rules))

@@ -16,4 +16,4 @@ invariant-loop-m l = (l.m ≤ 4) × FilledRound (keyed l.words l.n (λ k. mix_co
 -- MEASURES
 -- abbrev pub decreases-loop-m : goal.decreases-loop-m
 -- decreases-loop-m l = 4 - l.m
--- 
+--

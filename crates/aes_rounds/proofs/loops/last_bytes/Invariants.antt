@@ -11,4 +11,4 @@ invariant-loop-m l = (l.m ≤ 16) × Filled 16 (last_byte l.t) l.b l.m
 -- MEASURES
 -- abbrev pub decreases-loop-m : goal.decreases-loop-m
 -- decreases-loop-m l = 16 - l.m
--- 
+--

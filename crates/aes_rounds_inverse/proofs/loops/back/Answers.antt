@@ -13,14 +13,14 @@ pub loop-n-init : goal.loop-n-init
 loop-n-init c = (search rules, refl)
 
 pub loop-n-preserved : goal.loop-n-preserved
-loop-n-preserved c =     let w = c.args.words.now in
+loop-n-preserved c = let w = c.args.words.now in
     let l = c.loop-n in (
       search rules,
       ap (eq_rounds aes inv_s_box w (l.n - 1)) c.back_columns-u.ensures ∙ rounds_next w (bytes_of l.t) l.n (search rules) ∙ l.invariant.1,
     )
 
 pub returns : goal.returns
-returns c =     let l = c.loop-n in
+returns c = let l = c.loop-n in
     let a = c.args in
     let e : 0 ≡ l.n = omega arith in
     sym (rounds_none a.words.now (bytes_of l.t)) ∙ ap (λ (i : ℕ). eq_rounds aes inv_s_box a.words.now i (bytes_of l.t)) e

@@ -14,4 +14,3 @@ invariant-loop-n l = (l.n ≤ l.initial.n) × (eq_rounds aes inv_s_box l.words l
 
 abbrev pub decreases-loop-n : goal.decreases-loop-n
 decreases-loop-n l = l.n
-

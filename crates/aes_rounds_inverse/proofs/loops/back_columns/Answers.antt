@@ -15,7 +15,7 @@ loop-j-init c = (search rules, filled_none 4 _ _ refl)
 
 pub loop-j-preserved : goal.loop-j-preserved
 unfolding xor
-loop-j-preserved c =     let a = c.args in
+loop-j-preserved c = let a = c.args in
     let l = c.loop-j in
     let f = c.back_column in
     let i = c.first_word-first.result.0 in
@@ -23,6 +23,6 @@ loop-j-preserved c =     let a = c.args in
     (search rules, filled_more l.invariant.1 (search rules) _ (keyed_is a.words.now a.n (λ k. inv_mix_column (inv_sub_shifted a.t k)) i l.j f.result e f.ensures))
 
 pub returns : goal.returns
-returns c =     let a = c.args in
+returns c = let a = c.args in
     let l = c.loop-j in
     round_law a.words.now a.n a.t l.u (search rules) (filled_all l.invariant.1 (search rules))

@@ -16,4 +16,4 @@ invariant-loop-j l = (l.j ≤ 4) × Filled 4 (keyed l.words l.n (λ k. inv_mix_c
 -- MEASURES
 -- abbrev pub decreases-loop-j : goal.decreases-loop-j
 -- decreases-loop-j l = 4 - l.j
--- 
+--

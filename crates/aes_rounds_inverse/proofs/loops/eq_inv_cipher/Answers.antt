@@ -15,7 +15,7 @@ use Rattle.aes_rounds_inverse.proofs.loops.eq_inv_cipher.Goals as goal
 
 pub returns : goal.returns
 unfolding eq_inv_cipher
-returns c =     let a = c.args in
+returns c = let a = c.args in
     let b = c.last_bytes-last in
     let o : Octets 16 b.result = record { size = search rules; bytes = λ k. (let h : Fits w8 (get_or b.result k 0) = search rules in h.fits) } in
     c.as_columns.ensures ∙ c.add_round_key.ensures
