@@ -1,11 +1,9 @@
 -- From what the parts of a call give to what the call is to give. Assumes nothing.
 use mathlib.Core.Path.{◌≡◌, refl, sym, ap, ap₂, ◌∙◌}
 use mathlib.Core.Bool.{Bool, true, false, ◌&&◌, ◌||◌, not, cond}
-use mathlib.Core.List.{List, [], ◌∷◌}
+use mathlib.Core.List.{List}
 use Prim.Native.Nat.{ℕ, ◌+◌, ◌≤◌, ◌<◌}
 use native.Mathlib.Omega.{arith}
-use types.Run.{OneOf, miss}
-use denote.Enum.Declared.{tag_of}
 use borrow.Author.Tests.{eqb-true, ltb-false, leb-true, le-leb}
 use lib.Dec.{eqb, ltb, leb}
 use lib.ListN.{length}
@@ -13,7 +11,7 @@ use Rattle.octets.proofs.Both.{and_true}
 use Rattle.octets.specs.Octets.{Bytes, over}
 use Rattle.octets.proofs.Blocks.{zeros_bytes}
 use Rattle.aes_sbox.specs.Sbox.{s_box}
-use Rattle.aes_schedule.specs.Schedule.{schedule_of, key_number}
+use Rattle.aes_schedule.specs.Schedule.{schedule_of}
 use Rattle.aes_schedule.specs.declared.Expanded.{Expanded}
 use Rattle.aes_spec.specs.Cipher.{standard}
 use Rattle.image_limits.specs.Marks.{is_edition, mark_of}
@@ -29,7 +27,6 @@ use Rattle.image_writer.specs.Model.{sealed_under}
 use Rattle.image_writer_answer.specs.declared.WriteAnswer.{WriteAnswer}
 use Rattle.image_writer_answer.specs.declared.WriteAnswer.TheVariants.{Written, WriteKey, WriteCount, WriteNumber, WriteLength, WriteEdition, WriteRoom}
 use Rattle.image_writer_answer.specs.declared.Numbers.{Numbers}
-use Rattle.image_writer_answer.specs.contracts.WriteAnswer.{the_type}
 
 -- ---- the check before
 
@@ -115,9 +112,9 @@ module _ (ekey ckey : List ℕ) (e c : Expanded) (enc_is : e ≡ schedule_of s_b
       (head_for (edition n.edition) n.number n.count n.release (length payload)) payload))
 
 -- an answer that is not the first case leaves the output as it was
-pub write_kept : (a : WriteAnswer) (ekey ckey : List ℕ) (n : Numbers) (previous payload out : List ℕ) → OneOf (1 ∷ 2 ∷ 3 ∷ 4 ∷ 5 ∷ 6 ∷ []) (tag_of the_type a)
+pub write_kept : (a : WriteAnswer) (ekey ckey : List ℕ) (n : Numbers) (previous payload out : List ℕ) → (a ≡ Written → ⊥)
     → out ≡ write_output a ekey ckey n previous payload out
-write_kept Written ekey ckey n previous payload out h = absurd (miss (1 ∷ 2 ∷ 3 ∷ 4 ∷ 5 ∷ 6 ∷ []) 0 tt h)
+write_kept Written ekey ckey n previous payload out h = absurd (h refl)
 write_kept WriteKey ekey ckey n previous payload out h = refl
 write_kept WriteCount ekey ckey n previous payload out h = refl
 write_kept WriteNumber ekey ckey n previous payload out h = refl
