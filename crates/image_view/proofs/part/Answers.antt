@@ -11,14 +11,12 @@ use borrow.Author.Rules.{rules}
 use Rattle.image_view.proofs.part.Goals as goal
 
 pub overflow_add-result : goal.overflow_add-result
-overflow_add-result c = let a = c in
-    let n = length a.args.image.now in
+overflow_add-result c = let n = length c.args.image.now in
     let g : Fits w64 n = search rules in
-    record { fits = omega (arith, g.fits, c.offset-at.ensures, c.extent-n.ensures, part_fits a.args.from a.args.size n a.args.place a.requires) }
+    record { fits = omega (arith, g.fits, c.offset-at.ensures, c.extent-n.ensures, part_fits c.args.from c.args.size n c.args.place c.requires) }
 
 pub slice_bounds-result-end : goal.slice_bounds-result-end
-slice_bounds-result-end c = let a = c in
-    omega (arith, c.offset-at.ensures, c.extent-n.ensures, part_fits a.args.from a.args.size (length a.args.image.now) a.args.place a.requires)
+slice_bounds-result-end c = omega (arith, c.offset-at.ensures, c.extent-n.ensures, part_fits c.args.from c.args.size (length c.args.image.now) c.args.place c.requires)
 
 pub returns : goal.returns
 returns c = let a = c.args in
