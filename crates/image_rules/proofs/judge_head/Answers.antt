@@ -1,4 +1,5 @@
 use mathlib.Core.Bool.{not}
+use native.Mathlib.Omega.{arith}
 use borrow.Author.Tests.{eq-eqb, ne_eqb}
 use Rattle.image_rules.specs.Rules.{head_tests}
 use Rattle.image_reasons.proofs.Order.{hit, miss, through}
@@ -20,7 +21,7 @@ pub returns-then-other_count : goal.returns-then-other_count
 unfolding head_tests
 returns-then-other_count c =
     miss _ _ _ _ (ap not (sym c.count_fits.ensures ∙ c.if-not-count_fits.false))
-    (miss _ _ _ _ (ap not (eq-eqb _ _ c.if-other_number.false))
+    (miss _ _ _ _ (ap not (eq-eqb c.args.head.number c.args.progress.next (omega arith)))
     (hit _ _ _ (sym c.differs-other_count.ensures ∙ c.if-other_count.true)))
 
 pub returns-then-other_release : goal.returns-then-other_release
@@ -58,5 +59,5 @@ returns c =
     (miss _ _ _ _ (sym c.differs-other_count.ensures ∙ c.if-other_count.false)
     (miss _ _ _ _ (sym c.differs-other_release.ensures ∙ c.if-other_release.false)
     (miss _ _ _ _ (ap not (sym c.length_fits.ensures ∙ c.if-not-length_fits.false))
-    (miss _ _ _ _ (ap not (eq-eqb _ _ c.if-reserved-mark.false))
+    (miss _ _ _ _ (ap not (eq-eqb c.args.head.reserved c.args.mark (omega arith)))
     through)))))
