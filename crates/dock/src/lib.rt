@@ -506,6 +506,7 @@ fn block_answer(c: Ciphered) -> BlockAnswer
     }
 }
 
+#[tactic(auto, unfolding(crate::specs::Answers::after_mode))]
 fn run_mode(operation: Operation, key: &[u8], iv: &[u8], input: &[u8], output: &mut [u8]) -> u32
     ensures answer { result ≡ mode_number (mode_answer operation key.now iv.now input.now output.old) }
     ensures written { output.new ≡ after_mode operation key.now iv.now input.now output.old }
@@ -515,6 +516,7 @@ fn run_mode(operation: Operation, key: &[u8], iv: &[u8], input: &[u8], output: &
     answer.number()
 }
 
+#[tactic(auto, unfolding(crate::specs::Answers::after_mode, crate::specs::Answers::mode_applied))]
 fn run_chained_mode(
     operation: Operation,
     key: &[u8],
@@ -534,6 +536,7 @@ fn run_chained_mode(
     }
 }
 
+#[tactic(auto, unfolding(crate::specs::Wide::after_wide))]
 fn run_wide_24(
     operation: WideOperation,
     key: &[u8],
@@ -549,6 +552,7 @@ fn run_wide_24(
     answer.number()
 }
 
+#[tactic(auto, unfolding(crate::specs::Wide::after_wide, crate::specs::Wide::wide24_applied))]
 fn run_chained_24(
     operation: WideOperation,
     key: &[u8],
@@ -568,6 +572,7 @@ fn run_chained_24(
     }
 }
 
+#[tactic(auto, unfolding(crate::specs::Wide::after_wide))]
 fn run_wide_32(
     operation: WideOperation,
     key: &[u8],
@@ -583,6 +588,7 @@ fn run_wide_32(
     answer.number()
 }
 
+#[tactic(auto, unfolding(crate::specs::Wide::after_wide, crate::specs::Wide::wide32_applied))]
 fn run_chained_32(
     operation: WideOperation,
     key: &[u8],
