@@ -1,4 +1,3 @@
-use borrow.Author.Rules.{rules}
 use Rattle.dock_turn.proofs.turn_answer.Goals as goal
 
 pub returns : goal.returns

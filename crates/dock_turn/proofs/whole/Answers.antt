@@ -1,4 +1,3 @@
-use borrow.Author.Rules.{rules}
 use Rattle.dock_turn.proofs.whole.Goals as goal
 
 pub returns : goal.returns
