@@ -13,35 +13,26 @@ use native.Mathlib.Omega.{arith}
 use Rattle.ccm.proofs.open_into.Goals as goal
 
 pub returns-then-not-same_tag : goal.returns-then-not-same_tag
-returns-then-not-same_tag c = let b = c in
-    let f = b in
-    let m = f.opened_mac-made in
-    let n = f in
-    let s = n in
-    let a = s.args in
+returns-then-not-same_tag c = let m = c.opened_mac-made in
+    let a = c.args in
     let e = standard a.words.now a.rounds in
     let z = a.sealed.now in
-    let ctr : f.flagged-ctr.result ≡ counter a.nonce.now 0 = f.flagged-ctr.ensures ∙ ap (λ (y : List ℕ). flagged 1 y 0) n.thirteen-n.ensures in
-    let t = open_wrong e a.nonce.now a.ad.now z a.output.now m.result b.leading_sum-found.result (length z - 8 - 0) (omega arith)
-    (m.ensures ∙ ap (λ (y : List ℕ). opened_mac_over e y a.ad.now (take (length z - 8 - 0) z)) n.thirteen-n.ensures)
-    (b.leading_sum-found.ensures ∙ ap (λ (y : List ℕ). pad_to 16 (drop (length z - 8) z ⊕ y)) (b.encrypt_block.ensures ∙ ap e.enc ctr))
+    let ctr : c.flagged-ctr.result ≡ counter a.nonce.now 0 = c.flagged-ctr.ensures ∙ ap (λ (y : List ℕ). flagged 1 y 0) c.thirteen-n.ensures in
+    let t = open_wrong e a.nonce.now a.ad.now z a.output.now m.result c.leading_sum-found.result (length z - 8 - 0) (omega arith)
+    (m.ensures ∙ ap (λ (y : List ℕ). opened_mac_over e y a.ad.now (take (length z - 8 - 0) z)) c.thirteen-n.ensures)
+    (c.leading_sum-found.ensures ∙ ap (λ (y : List ℕ). pad_to 16 (drop (length z - 8) z ⊕ y)) (c.encrypt_block.ensures ∙ ap e.enc ctr))
     _ c.same_tag.ensures c.if-not-same_tag.true in
     record { answer = t.0; written = t.1 }
 
 pub returns : goal.returns
-returns c = let i = c in
-    let b = i in
-    let f = b in
-    let m = f.opened_mac-made in
-    let n = f in
-    let s = n in
-    let a = s.args in
+returns c = let m = c.opened_mac-made in
+    let a = c.args in
     let e = standard a.words.now a.rounds in
     let z = a.sealed.now in
-    let ctr : f.flagged-ctr.result ≡ counter a.nonce.now 0 = f.flagged-ctr.ensures ∙ ap (λ (y : List ℕ). flagged 1 y 0) n.thirteen-n.ensures in
-    let t = open_right e a.nonce.now a.ad.now z a.output.now m.result b.leading_sum-found.result (length z - 8 - 0) (omega arith)
-    (m.ensures ∙ ap (λ (y : List ℕ). opened_mac_over e y a.ad.now (take (length z - 8 - 0) z)) n.thirteen-n.ensures)
-    (b.leading_sum-found.ensures ∙ ap (λ (y : List ℕ). pad_to 16 (drop (length z - 8) z ⊕ y)) (b.encrypt_block.ensures ∙ ap e.enc ctr))
-    _ i.same_tag.ensures c.if-not-same_tag.false _ s.requires.2 s.requires.3
+    let ctr : c.flagged-ctr.result ≡ counter a.nonce.now 0 = c.flagged-ctr.ensures ∙ ap (λ (y : List ℕ). flagged 1 y 0) c.thirteen-n.ensures in
+    let t = open_right e a.nonce.now a.ad.now z a.output.now m.result c.leading_sum-found.result (length z - 8 - 0) (omega arith)
+    (m.ensures ∙ ap (λ (y : List ℕ). opened_mac_over e y a.ad.now (take (length z - 8 - 0) z)) c.thirteen-n.ensures)
+    (c.leading_sum-found.ensures ∙ ap (λ (y : List ℕ). pad_to 16 (drop (length z - 8) z ⊕ y)) (c.encrypt_block.ensures ∙ ap e.enc ctr))
+    _ c.same_tag.ensures c.if-not-same_tag.false _ c.requires.2 c.requires.3
     (c.stream.ensures ∙ ap (λ (y : List ℕ). streamed_over e y (take (length z - 8 - 0) z) a.output.now) ctr) in
     record { answer = t.0; written = t.1 }

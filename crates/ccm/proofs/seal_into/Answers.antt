@@ -14,18 +14,12 @@ use Rattle.ccm.proofs.seal_into.Goals as goal
 
 pub returns : goal.returns
 returns c = let w = c.copy in
-    let g = c in
-    let x = g in
-    let m = x in
-    let f = m in
-    let n = f in
-    let s = n in
-    let a = s.args in
+    let a = c.args in
     let e = standard a.words.now a.rounds in
-    let ctr : f.flagged-ctr.result ≡ counter a.nonce.now 0 = f.flagged-ctr.ensures ∙ ap (λ (y : List ℕ). flagged 1 y 0) n.thirteen-n.ensures in
-    let lt : length x.xor-tag.result ≡ 16 = search rules in
-    let et : x.xor-tag.result ≡ mac_over e a.nonce.now a.ad.now a.message.now ⊕ e.enc (counter a.nonce.now 0) =
-    x.xor-tag.ensures
-    ∙ ap₂ ◌⊕◌ (m.mac.ensures ∙ ap (λ (y : List ℕ). mac_over e y a.ad.now a.message.now) n.thirteen-n.ensures) (x.encrypt_block.ensures ∙ ap e.enc ctr) in
-    sealed_built e a.nonce.now a.ad.now a.message.now a.output.now s.requires.2 x.xor-tag.result _ _ (8 - 0) lt et
-    (g.stream.ensures ∙ ap (λ (y : List ℕ). streamed_over e y a.message.now a.output.now) ctr) g.stream.auto.output (omega arith) w.ensures
+    let ctr : c.flagged-ctr.result ≡ counter a.nonce.now 0 = c.flagged-ctr.ensures ∙ ap (λ (y : List ℕ). flagged 1 y 0) c.thirteen-n.ensures in
+    let lt : length c.xor-tag.result ≡ 16 = search rules in
+    let et : c.xor-tag.result ≡ mac_over e a.nonce.now a.ad.now a.message.now ⊕ e.enc (counter a.nonce.now 0) =
+    c.xor-tag.ensures
+    ∙ ap₂ ◌⊕◌ (c.mac.ensures ∙ ap (λ (y : List ℕ). mac_over e y a.ad.now a.message.now) c.thirteen-n.ensures) (c.encrypt_block.ensures ∙ ap e.enc ctr) in
+    sealed_built e a.nonce.now a.ad.now a.message.now a.output.now c.requires.2 c.xor-tag.result _ _ (8 - 0) lt et
+    (c.stream.ensures ∙ ap (λ (y : List ℕ). streamed_over e y a.message.now a.output.now) ctr) c.stream.auto.output (omega arith) w.ensures

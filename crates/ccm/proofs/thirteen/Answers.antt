@@ -3,5 +3,4 @@ use Rattle.ccm.proofs.Building.{thirteen_is}
 use Rattle.ccm.proofs.thirteen.Goals as goal
 
 pub returns : goal.returns
-returns c = let s = c in
-    c.copy.ensures ∙ thirteen_is s.args.nonce.now s.requires
+returns c = c.copy.ensures ∙ thirteen_is c.args.nonce.now c.requires

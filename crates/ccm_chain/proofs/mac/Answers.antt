@@ -9,5 +9,4 @@ returns-then-ad-gt64 c = rw (lt-leb _ 64 c.if-ad-gt64.true)
 
 pub returns : goal.returns
 unfolding mac_over
-returns c = let t = c in
-    rw (le-leb _ 64 t.if-ad-gt64.false) (c.through.ensures ∙ rw c.begun-start.ensures)
+returns c = rw (le-leb _ 64 c.if-ad-gt64.false) (c.through.ensures ∙ rw c.begun-start.ensures)

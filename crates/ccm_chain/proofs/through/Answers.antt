@@ -16,14 +16,13 @@ returns-then-at-message c = let a = c.args in
     c.chained-value.ensures ∙ through_whole (standard a.words.now a.rounds) a.chain a.message.now c.if-at-message.true
 
 pub returns : goal.returns
-returns c = let t = c in
-    let f = c.piece_filled-rest in
-    let a = t.args in
+returns c = let f = c.piece_filled-rest in
+    let a = c.args in
     let e = standard a.words.now a.rounds in
     let m = a.message.now in
     let at = length m / 16 * 16 in
     let lr : length f.result ≡ 16 = search rules in
     let er : f.result ≡ pad_to 16 (drop at m) =
     f.ensures ∙ ap (λ (x : List ℕ). pad_to 16 (take 16 x)) (to_end m at) ∙ piece_short (drop at m) (omega (arith, length-drop at m)) in
-    c.chained.ensures ∙ ap (λ (x : List ℕ). cmac.chained e x (length f.result / 16) f.result) t.chained-value.ensures
-    ∙ through_rest e a.chain m f.result lr er t.if-at-message.false
+    c.chained.ensures ∙ ap (λ (x : List ℕ). cmac.chained e x (length f.result / 16) f.result) c.chained-value.ensures
+    ∙ through_rest e a.chain m f.result lr er c.if-at-message.false

@@ -20,13 +20,12 @@ loop-i-init c = (search rules, refl, refl)
 
 pub loop-i-preserved : goal.loop-i-preserved
 loop-i-preserved c = let m = c.leading_sum-plain in
-    let k = c in
-    let l = k.loop-i in
-    let a = k.args in
+    let l = c.loop-i in
+    let a = c.args in
     let e = standard a.words.now a.rounds in
     let inp = a.input.now in
     let b : m.result ≡ pad_to 16 (drop (l.i * 16) inp ⊕ e.enc (numbered_as a.ctr (l.i + 1))) =
-    m.ensures ∙ ap (λ (x : List ℕ). pad_to 16 (drop (l.i * 16) inp ⊕ x)) (k.encrypt_block-made.ensures ∙ ap e.enc k.numbered.ensures) in
+    m.ensures ∙ ap (λ (x : List ℕ). pad_to 16 (drop (l.i * 16) inp ⊕ x)) (c.encrypt_block-made.ensures ∙ ap e.enc c.numbered.ensures) in
     let lb : length m.result ≡ 16 = search rules in
     let p = pieces_length e a.ctr inp l.i m.result l.invariant.1 lb b in (
       search rules,

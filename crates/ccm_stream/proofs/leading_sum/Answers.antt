@@ -10,9 +10,8 @@ use borrow.Author.Rules.{rules}
 use Rattle.ccm_stream.proofs.leading_sum.Goals as goal
 
 pub returns-then-has_room : goal.returns-then-has_room
-returns-then-has_room c = let t = c in
-    let a = t.args in
-    let h : a.at + 16 ≤ length a.s.now = leb-true (a.at + 16) (length a.s.now) (sym t.has_room.ensures ∙ t.if-has_room.true) in
+returns-then-has_room c = let a = c.args in
+    let h : a.at + 16 ≤ length a.s.now = leb-true (a.at + 16) (length a.s.now) (sym c.has_room.ensures ∙ c.if-has_room.true) in
     let n : length a.block ≡ 16 = search rules in
     c.xor.ensures ∙ ap (◌⊕ a.block) (c.load.ensures ∙ block-at a.s.now a.at h)
     ∙ sum_full a.block n (drop a.at a.s.now) (omega (arith, length-drop a.at a.s.now))

@@ -12,7 +12,6 @@ returns-then-output-input c = rw (lt-leb _ _ c.if-output-input.true)
 
 pub returns : goal.returns
 unfolding streamed_over
-returns c = let t = c in
-    let a = t.args in
+returns c = let a = c.args in
     let e : length a.input.now - 0 ≡ length a.input.now = sub-zero _ in
-    rw (le-leb _ _ t.if-output-input.false, c.stream_into.ensures, e)
+    rw (le-leb _ _ c.if-output-input.false, c.stream_into.ensures, e)

@@ -9,8 +9,6 @@ use Rattle.image_receiver_block.proofs.checked.Goals as goal
 
 pub returns : goal.returns
 unfolding key2
-returns c = let k2 = c in
-    let k1 = k2 in
-    let a = k1.args in
-    let e2 : k2.key2-key2.result ≡ key2 (standard a.cwords.now a.rounds.chk) = k2.key2-key2.ensures ∙ ap doubled k1.key1-key1.ensures in
-    c.check_holds.ensures ∙ ap (λ (t : Bool). usable a.rounds && t) (checks_same a.cwords.now a.rounds.chk _ _ k1.key1-key1.ensures e2 [] a.block.now)
+returns c = let a = c.args in
+    let e2 : c.key2-key2.result ≡ key2 (standard a.cwords.now a.rounds.chk) = c.key2-key2.ensures ∙ ap doubled c.key1-key1.ensures in
+    c.check_holds.ensures ∙ ap (λ (t : Bool). usable a.rounds && t) (checks_same a.cwords.now a.rounds.chk _ _ c.key1-key1.ensures e2 [] a.block.now)

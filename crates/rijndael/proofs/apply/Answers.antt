@@ -30,8 +30,7 @@ pieces-chain-requires c = let a = c.args in
     (c.table_into.ensures ∙ ap (λ (y : Way). tabulate 256 (entry_of y)) c.way_of-way.ensures, f.room)
 
 pub returns : goal.returns
-returns c = let b = c in
-    let sc = b.schedule_into-rounds in
+returns c = let sc = c.schedule_into-rounds in
     let a = c.args in
     let v = a.width in
     let o = a.operation in
@@ -42,8 +41,8 @@ returns c = let b = c in
     let bi : Bytes iv = λ i. omega (arith, c.type_inv.iv i) in
     let bs : Bytes inp = λ i. omega (arith, c.type_inv.input i) in
     let told = c.in-Done.is in
-    let e = answered v o key iv inp out _ _ sc.ensures.0 b.judge-answer.ensures in
-    let f = right v o key iv inp out _ _ sc.ensures.0 b.judge-answer.ensures told in
+    let e = answered v o key iv inp out _ _ sc.ensures.0 c.judge-answer.ensures in
+    let f = right v o key iv inp out _ _ sc.ensures.0 c.judge-answer.ensures told in
     let so = c.start_of-start in
     let st = block_of v so.result in
     let wf = c.words_for in

@@ -11,22 +11,18 @@ use borrow.Author.Rules.{rules}
 use Rattle.ccm_chain.proofs.head.begun.Goals as goal
 
 pub returns-then-ad-eq0 : goal.returns-then-ad-eq0
-returns-then-ad-eq0 c = let f = c in
-    let a = f.args in
-    let b : f.flagged-first.result ≡ first a.nonce a.ad.now a.len = f.flagged-first.ensures ∙ ap (λ (x : ℕ). flagged x a.nonce a.len) f.first_flags.ensures in
-    let n : length f.flagged-first.result ≡ 16 = search rules in
-    c.chained-start.ensures ∙ begun_none (standard a.words.now a.rounds) a.nonce a.ad.now a.len f.flagged-first.result b n c.if-ad-eq0.true
+returns-then-ad-eq0 c = let a = c.args in
+    let b : c.flagged-first.result ≡ first a.nonce a.ad.now a.len = c.flagged-first.ensures ∙ ap (λ (x : ℕ). flagged x a.nonce a.len) c.first_flags.ensures in
+    let n : length c.flagged-first.result ≡ 16 = search rules in
+    c.chained-start.ensures ∙ begun_none (standard a.words.now a.rounds) a.nonce a.ad.now a.len c.flagged-first.result b n c.if-ad-eq0.true
 
 pub returns : goal.returns
 returns c = let d = c.encoded-data in
-    let t = c in
-    let f = t in
-    let s = f in
-    let a = s.args in
+    let a = c.args in
     let e = standard a.words.now a.rounds in
     let ad = a.ad.now in
     let m = (length ad + 17) / 16 * 16 - 0 in
-    let b : f.flagged-first.result ≡ first a.nonce ad a.len = f.flagged-first.ensures ∙ ap (λ (x : ℕ). flagged x a.nonce a.len) f.first_flags.ensures in
-    let n : length f.flagged-first.result ≡ 16 = search rules in
-    c.chained.ensures ∙ ap (λ (x : List ℕ). cmac.chained e x (length (take m d.result) / 16) (take m d.result)) t.chained-start.ensures
-    ∙ begun_some e a.nonce ad a.len f.flagged-first.result (take m d.result) b n t.if-ad-eq0.false (data_whole ad s.requires d.result m d.ensures (omega arith))
+    let b : c.flagged-first.result ≡ first a.nonce ad a.len = c.flagged-first.ensures ∙ ap (λ (x : ℕ). flagged x a.nonce a.len) c.first_flags.ensures in
+    let n : length c.flagged-first.result ≡ 16 = search rules in
+    c.chained.ensures ∙ ap (λ (x : List ℕ). cmac.chained e x (length (take m d.result) / 16) (take m d.result)) c.chained-start.ensures
+    ∙ begun_some e a.nonce ad a.len c.flagged-first.result (take m d.result) b n c.if-ad-eq0.false (data_whole ad c.requires d.result m d.ensures (omega arith))

@@ -12,7 +12,6 @@ pub loop-i-preserved : goal.loop-i-preserved
 loop-i-preserved c = (search rules, filled_more c.loop-i.invariant.1 (search rules) _ c.byte_sum.ensures)
 
 pub returns : goal.returns
-returns c = let s = c in
-    let a = s.args in
+returns c = let a = c.args in
     let n : length a.block ≡ 16 = search rules in
-    filled_all c.loop-i.invariant.1 (search rules) ∙ sym (sum_short a.block n a.s.now a.at s.requires)
+    filled_all c.loop-i.invariant.1 (search rules) ∙ sym (sum_short a.block n a.s.now a.at c.requires)

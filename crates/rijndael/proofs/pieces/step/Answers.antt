@@ -19,28 +19,24 @@ right : (t : List ℕ) (o : WideOperation) (y : Way) → t ≡ tabulate 256 (ent
 right t o y e f k h = ap (λ (x : List ℕ). entry x k) (e ∙ ap (λ (x : Way). tabulate 256 (entry_of x)) f) ∙ entry_table (entry_of y) k h
 
 pub returns-in-EncryptEcb : goal.returns-in-EncryptEcb
-returns-in-EncryptEcb c = let b = c in
-    let a = b.args in
+returns-in-EncryptEcb c = let a = c.args in
     let told = c.in-EncryptEcb.is in
-    rw told (forth_block a.width (entry a.table.now) a.words.now a.rounds a.piece _ c.through-out.ensures (right a.table.now a.operation Forth b.requires (ap way_of told)), refl)
+    rw told (forth_block a.width (entry a.table.now) a.words.now a.rounds a.piece _ c.through-out.ensures (right a.table.now a.operation Forth c.requires (ap way_of told)), refl)
 
 pub returns-in-DecryptEcb : goal.returns-in-DecryptEcb
-returns-in-DecryptEcb c = let b = c in
-    let a = b.args in
+returns-in-DecryptEcb c = let a = c.args in
     let told = c.in-DecryptEcb.is in
-    rw told (back_block a.width (entry a.table.now) a.words.now a.rounds a.piece _ c.through-out-in-DecryptEcb.ensures (right a.table.now a.operation Back b.requires (ap way_of told)), refl)
+    rw told (back_block a.width (entry a.table.now) a.words.now a.rounds a.piece _ c.through-out-in-DecryptEcb.ensures (right a.table.now a.operation Back c.requires (ap way_of told)), refl)
 
 pub returns-in-EncryptCbc : goal.returns-in-EncryptCbc
-returns-in-EncryptCbc c = let b = c in
-    let a = b.args in
+returns-in-EncryptCbc c = let a = c.args in
     let told = c.in-EncryptCbc.is in
-    let e = forth_block a.width (entry a.table.now) a.words.now a.rounds c.sum.result _ c.through-block.ensures (right a.table.now a.operation Forth b.requires (ap way_of told))
+    let e = forth_block a.width (entry a.table.now) a.words.now a.rounds c.sum.result _ c.through-block.ensures (right a.table.now a.operation Forth c.requires (ap way_of told))
     ∙ ap (wide_encrypt a.width a.words.now a.rounds) (ap (block_of a.width) c.sum.ensures ∙ block_sum a.width a.piece a.chain) in
     rw told (e, e)
 
 pub returns-in-DecryptCbc : goal.returns-in-DecryptCbc
-returns-in-DecryptCbc c = let b = c in
-    let a = b.args in
+returns-in-DecryptCbc c = let a = c.args in
     let told = c.in-DecryptCbc.is in
-    let e = back_block a.width (entry a.table.now) a.words.now a.rounds a.piece _ c.through-block-in-DecryptCbc.ensures (right a.table.now a.operation Back b.requires (ap way_of told)) in
+    let e = back_block a.width (entry a.table.now) a.words.now a.rounds a.piece _ c.through-block-in-DecryptCbc.ensures (right a.table.now a.operation Back c.requires (ap way_of told)) in
     rw told (ap (block_of a.width) c.sum-out.ensures ∙ block_sum a.width c.through-block-in-DecryptCbc.result a.chain ∙ ap (λ (x : List ℕ). x ⊕ block_of a.width a.chain) e, refl)
