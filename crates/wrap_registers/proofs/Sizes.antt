@@ -2,19 +2,13 @@
 use mathlib.Core.Path.{◌≡◌}
 use mathlib.Core.Bool.{true, false}
 use mathlib.Core.List.{List}
-use Prim.Native.Nat.{ℕ, ◌-◌, ◌*◌, ◌/◌, ◌%◌, ◌≤◌, ◌<◌}
-use native.Mathlib.Nat.{mul-le-mul_right}
-use native.Mathlib.Omega.{arith}
+use Prim.Native.Nat.{ℕ, ◌-◌, ◌/◌, ◌%◌, ◌≤◌}
 use lib.ListN.{length}
 use Rattle.octets.specs.Blocks.{BlockCipher}
 use Rattle.wrap_spec.specs.Wrap.{passes, unwrapped}
 use Rattle.wrap_answer.specs.Answers.{wrapped_size_fits}
 use Rattle.wrap_answer.proofs.Sizes.{wrapped_size_right}
 use Rattle.wrap_registers.specs.Model.{passed_over, unpassed_over}
-
--- a step number is at most 40 and 8 more, hence one byte
-pub product_fits : (n j : ℕ) → n ≤ 8 → j < 6 → n * j ≤ 40
-product_fits n j hn hj = let h : n * j ≤ 8 * j = mul-le-mul_right j hn in omega (arith, h)
 
 module _ (c : BlockCipher) (w : List ℕ) where
   module _ (f : wrapped_size_fits (length w) ≡ true) where

@@ -3,6 +3,5 @@ use Rattle.cmac.proofs.check.Goals as goal
 
 pub returns : goal.returns
 returns c =
-    let n = c in
-    let a = n.args in
-    check_under a.key.now a.message.now _ _ n.new-made.ensures c.check_with-mac.ensures
+    let a = c.args in
+    check_under a.key.now a.message.now _ _ c.new-made.ensures c.check_with-mac.ensures

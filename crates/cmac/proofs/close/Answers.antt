@@ -4,5 +4,4 @@ use Rattle.cmac.proofs.close.Goals as goal
 
 pub returns : goal.returns
 returns c =
-    let f = c in
-    close_under f.args.record _ (c.close_run.ensures ∙ rw f.run_of-run.ensures)
+    close_under c.args.record _ (c.close_run.ensures ∙ rw c.run_of-run.ensures)

@@ -4,6 +4,5 @@ use Rattle.cmac.proofs.fed_with.Goals as goal
 
 pub returns : goal.returns
 returns c =
-    let f = c in
-    let a = f.args in
-    c.record_of.ensures ∙ fed_under a.«record» a.part.now _ (c.fed-run.ensures ∙ rw f.run_of.ensures)
+    let a = c.args in
+    c.record_of.ensures ∙ fed_under a.«record» a.part.now _ (c.fed-run.ensures ∙ rw c.run_of.ensures)

@@ -6,12 +6,10 @@ use Rattle.cmac_subkeys.proofs.last.Goals as goal
 
 pub returns-then-count-lt16 : goal.returns-then-count-lt16
 returns-then-count-lt16 c =
-    let s = c in
-    let size : length s.args.held ≡ 16 = search rules in
-    c.xor.ensures ∙ rw c.piece_filled.ensures (last_short s.args.held size s.args.key1.now s.args.key2.now s.args.count (search rules))
+    let size : length c.args.held ≡ 16 = search rules in
+    c.xor.ensures ∙ rw c.piece_filled.ensures (last_short c.args.held size c.args.key1.now c.args.key2.now c.args.count (search rules))
 
 pub returns : goal.returns
 returns c =
-    let s = c in
-    let size : length s.args.held ≡ 16 = search rules in
-    c.xor-2.ensures ∙ last_full s.args.held size s.args.key1.now s.args.key2.now s.args.count (search rules)
+    let size : length c.args.held ≡ 16 = search rules in
+    c.xor-2.ensures ∙ last_full c.args.held size c.args.key1.now c.args.key2.now c.args.count (search rules)

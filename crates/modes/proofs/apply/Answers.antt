@@ -6,22 +6,20 @@ use Rattle.modes.proofs.apply.Goals as goal
 
 pub returns-in_default : goal.returns-in_default
 returns-in_default c =
-    let k = c in
-    let a = k.args in
-    let e = answered a.operation a.key.now a.iv.now a.input.now a.output.now _ _ k.new-made.ensures k.judge-answer.ensures in record {
+    let a = c.args in
+    let e = answered a.operation a.key.now a.iv.now a.input.now a.output.now _ _ c.new-made.ensures c.judge-answer.ensures in record {
       answer = same_applied _ _ _ a.operation a.key.now a.iv.now a.input.now e
-          (sym (refused_zeros k.judge-answer.result a.operation a.key.now a.iv.now a.input.now c.in_default.not-Done));
-      written = sym (refused_keeps k.judge-answer.result a.operation a.key.now a.iv.now a.input.now a.output.now c.in_default.not-Done);
+          (sym (refused_zeros c.judge-answer.result a.operation a.key.now a.iv.now a.input.now c.in_default.not-Done));
+      written = sym (refused_keeps c.judge-answer.result a.operation a.key.now a.iv.now a.input.now a.output.now c.in_default.not-Done);
     }
 
 pub returns : goal.returns
 returns c =
-    let k = c in
-    let a = k.args in
-    let bi : Bytes a.iv.now = λ i. omega (arith, k.type_inv.iv i) in
-    let bs : Bytes a.input.now = λ i. omega (arith, k.type_inv.input i) in
-    let pe = k.new-made.ensures in
-    let pr = k.judge-answer.ensures in
+    let a = c.args in
+    let bi : Bytes a.iv.now = λ i. omega (arith, c.type_inv.iv i) in
+    let bs : Bytes a.input.now = λ i. omega (arith, c.type_inv.input i) in
+    let pe = c.new-made.ensures in
+    let pr = c.judge-answer.ensures in
     let e = answered a.operation a.key.now a.iv.now a.input.now a.output.now _ _ pe pr in
     let w =
     written a.operation a.key.now a.iv.now a.input.now a.output.now _ _ pe pr _ _ _

@@ -8,19 +8,17 @@ use Rattle.modes.proofs.under_schedule.Goals as goal
 
 pub returns-then-inverts : goal.returns-then-inverts
 returns-then-inverts c =
-    let k = c in
-    let a = k.args in
+    let a = c.args in
     let w = a.words.now in
     c.run.ensures
-    ∙ ap (λ (v : List ℕ). run_over (one_way v a.rounds) a.operation a.iv a.input.now a.output.now) k.inverse_words.ensures
+    ∙ ap (λ (v : List ℕ). run_over (one_way v a.rounds) a.operation a.iv a.input.now a.output.now) c.inverse_words.ensures
     ∙ through_backward w (inverse_words w a.rounds) a.rounds a.operation a.iv a.input.now a.output.now
-    (sym k.inverts.ensures ∙ k.if-inverts.true)
+    (sym c.inverts.ensures ∙ c.if-inverts.true)
 
 pub returns : goal.returns
 returns c =
-    let k = c in
-    let a = k.args in
+    let a = c.args in
     let w = a.words.now in
     c.run-2.ensures
     ∙ through_forward w (inverse_words w a.rounds) a.rounds a.operation a.iv a.input.now a.output.now
-    (sym k.inverts.ensures ∙ k.if-inverts.false)
+    (sym c.inverts.ensures ∙ c.if-inverts.false)

@@ -6,16 +6,12 @@ use Rattle.modes_run.proofs.run.Goals as goal
 
 pub returns-then-any_length : goal.returns-then-any_length
 returns-then-any_length c =
-    let any = c in
-    let w = any in
-    let s = w in
-    let a = s.args in
-    run_all (one_way a.words.now a.rounds) a.operation a.iv a.input.now a.output.now _ _ w.whole_pieces-chain.ensures
-    (sym any.any_length.ensures ∙ c.if-any_length.true) _ s.smaller-end.ensures (search rules) _ _ c.last_piece.ensures
+    let a = c.args in
+    run_all (one_way a.words.now a.rounds) a.operation a.iv a.input.now a.output.now _ _ c.whole_pieces-chain.ensures
+    (sym c.any_length.ensures ∙ c.if-any_length.true) _ c.smaller-end.ensures (search rules) _ _ c.last_piece.ensures
 
 pub returns : goal.returns
 returns c =
-    let w = c in
-    let a = w.args in
-    run_whole (one_way a.words.now a.rounds) a.operation a.iv a.input.now a.output.now _ _ w.whole_pieces-chain.ensures
+    let a = c.args in
+    run_whole (one_way a.words.now a.rounds) a.operation a.iv a.input.now a.output.now _ _ c.whole_pieces-chain.ensures
     (sym c.any_length.ensures ∙ c.if-any_length.false)

@@ -21,18 +21,16 @@ loop-i-init c = (search rules, refl, refl, refl, refl)
 pub loop-i-preserved : goal.loop-i-preserved
 loop-i-preserved c =
     let w = c.store in
-    let x = c in
-    let g = x in
-    let l = g.loop-i in
-    let a = g.args in
+    let l = c.loop-i in
+    let a = c.args in
     let inp = a.input.now in
     let e = one_way a.words.now a.rounds in
     let m = machine e CbcDecrypt in
     let st = after 16 m a.iv l.i inp in
-    let f = x.xor.result in
+    let f = c.xor.result in
     let lf : length f ≡ 16 = search rules in
-    let p : g.load-piece.result ≡ piece 16 inp l.i = g.load-piece.ensures ∙ block-at inp (l.i * 16) (omega arith) in
-    let ef : f ≡ m.out st (piece 16 inp l.i) = x.xor.ensures ∙ ap₂ ◌⊕◌ (x.decrypt_block.ensures ∙ ap e.dec p) l.invariant.3 in
+    let p : c.load-piece.result ≡ piece 16 inp l.i = c.load-piece.ensures ∙ block-at inp (l.i * 16) (omega arith) in
+    let ef : f ≡ m.out st (piece 16 inp l.i) = c.xor.ensures ∙ ap₂ ◌⊕◌ (c.decrypt_block.ensures ∙ ap e.dec p) l.invariant.3 in
     let lo : length (m.out st (piece 16 inp l.i)) ≡ 16 = ap length (sym ef) ∙ lf in
     let put : w.new.s ≡ paste l.output (l.i * 16) (m.out st (piece 16 inp l.i)) 16 =
     w.ensures ∙ block_put l.output (l.i * 16) (omega arith) f lf ∙ ap (λ (y : List ℕ). paste l.output (l.i * 16) y 16) ef in (

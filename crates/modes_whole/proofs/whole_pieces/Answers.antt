@@ -24,13 +24,11 @@ opened-requires c =
 
 pub returns-in-CbcDecrypt : goal.returns-in-CbcDecrypt
 returns-in-CbcDecrypt c =
-    let o = c in
-    let t = o in
-    let a = t.args in
+    let a = c.args in
     let e = one_way a.words.now a.rounds in
-    o.opened.ensures
-    ∙ ap (λ (k : ℕ). ran 16 (machine e CbcDecrypt) a.iv (k / 16) a.input.now a.output.now) t.smaller-both.ensures
-    ∙ ap (λ (v : Operation). ran_whole (machine e v) a.iv a.input.now a.output.now) (sym t.in-CbcDecrypt.is)
+    c.opened.ensures
+    ∙ ap (λ (k : ℕ). ran 16 (machine e CbcDecrypt) a.iv (k / 16) a.input.now a.output.now) c.smaller-both.ensures
+    ∙ ap (λ (v : Operation). ran_whole (machine e v) a.iv a.input.now a.output.now) (sym c.in-CbcDecrypt.is)
 
 pub loop-i-init : goal.loop-i-init
 unfolding output_of after
@@ -39,16 +37,15 @@ loop-i-init c = (search rules, refl, refl, refl, refl)
 pub loop-i-preserved : goal.loop-i-preserved
 loop-i-preserved c =
     let w = c.store in
-    let k = c in
-    let l = k.loop-i in
-    let a = k.args in
+    let l = c.loop-i in
+    let a = c.args in
     let inp = a.input.now in
     let m = machine (one_way a.words.now a.rounds) a.operation in
     let st = after 16 m a.iv l.i inp in
-    let f = k.step-s.result.out in
+    let f = c.step-s.result.out in
     let lf : length f ≡ 16 = search rules in
-    let p : k.load.result ≡ piece 16 inp l.i = k.load.ensures ∙ block-at inp (l.i * 16) (omega arith) in
-    let e : k.step-s.result ≡ step_of m st (piece 16 inp l.i) = k.step-s.ensures ∙ ap₂ (step_of m) l.invariant.3 p in
+    let p : c.load.result ≡ piece 16 inp l.i = c.load.ensures ∙ block-at inp (l.i * 16) (omega arith) in
+    let e : c.step-s.result ≡ step_of m st (piece 16 inp l.i) = c.step-s.ensures ∙ ap₂ (step_of m) l.invariant.3 p in
     let ef : f ≡ m.out st (piece 16 inp l.i) = ap (λ (x : Stepped). x.out) e in
     let lo : length (m.out st (piece 16 inp l.i)) ≡ 16 = ap length (sym ef) ∙ lf in
     let put : w.new.s ≡ paste l.output (l.i * 16) (m.out st (piece 16 inp l.i)) 16 =

@@ -11,9 +11,8 @@ pub returns : goal.returns
 returns c =
     let u = c.unpasses in
     let cp = c.copy in
-    let s = c in
-    let a = s.args in
+    let a = c.args in
     let k = one_way a.words.now a.rounds in record {
-      registers = opened_by k a.given.now s.requires.0 s.requires.1 s.requires.2 (length a.given.now - 0) (omega arith) _ _ _ (cp.ensures ∙ copied_fits a.given.now 0 _ (omega (arith, s.requires.1))) u.ensures u.auto.w refl;
-      size = opened_size k a.given.now s.requires.0 s.requires.1 s.requires.2 (length a.given.now - 0) (omega arith) _ _ _ (cp.ensures ∙ copied_fits a.given.now 0 _ (omega (arith, s.requires.1))) u.ensures u.auto.w refl;
+      registers = opened_by k a.given.now c.requires.0 c.requires.1 c.requires.2 (length a.given.now - 0) (omega arith) _ _ _ (cp.ensures ∙ copied_fits a.given.now 0 _ (omega (arith, c.requires.1))) u.ensures u.auto.w refl;
+      size = opened_size k a.given.now c.requires.0 c.requires.1 c.requires.2 (length a.given.now - 0) (omega arith) _ _ _ (cp.ensures ∙ copied_fits a.given.now 0 _ (omega (arith, c.requires.1))) u.ensures u.auto.w refl;
     }

@@ -8,16 +8,13 @@ use Rattle.wrap.proofs.unwrap_into.Goals as goal
 pub returns-then-not-is_initial : goal.returns-then-not-is_initial
 returns-then-not-is_initial c =
     let o = c.opened-w in
-    let s = c in
-    let a = s.args in
-    let t = opened_wrong (one_way a.words.now a.rounds) a.given.now a.output.now o.result (omega (arith, s.requires.0)) o.ensures.registers o.ensures.size _ c.is_initial.ensures c.if-not-is_initial.true in
+    let a = c.args in
+    let t = opened_wrong (one_way a.words.now a.rounds) a.given.now a.output.now o.result (omega (arith, c.requires.0)) o.ensures.registers o.ensures.size _ c.is_initial.ensures c.if-not-is_initial.true in
     record { answer = t.0; written = t.1 }
 
 pub returns : goal.returns
 returns c =
     let o = c.opened-w in
-    let i = c in
-    let s = c in
-    let a = s.args in
-    let t = opened_right (one_way a.words.now a.rounds) a.given.now a.output.now o.result (omega (arith, s.requires.0)) o.ensures.registers o.ensures.size _ i.is_initial.ensures i.if-not-is_initial.false _ (c.copy.ensures ∙ copied_fits _ 0 a.output.now (omega (arith, s.requires))) in
+    let a = c.args in
+    let t = opened_right (one_way a.words.now a.rounds) a.given.now a.output.now o.result (omega (arith, c.requires.0)) o.ensures.registers o.ensures.size _ c.is_initial.ensures c.if-not-is_initial.false _ (c.copy.ensures ∙ copied_fits _ 0 a.output.now (omega (arith, c.requires))) in
     record { answer = t.0; written = t.1 }

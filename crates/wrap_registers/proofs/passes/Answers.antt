@@ -33,9 +33,8 @@ loop-j-preserved c =
 pub returns : goal.returns
 returns c =
     let l = c.loop-j in
-    let i = c in
-    let a = i.args in
+    let a = c.args in
     let k = standard a.words.now a.rounds in
     let n = length a.w.now / 8 - 1 in
     let e : l.j ≡ 6 = omega arith in
-    l.invariant.2 ∙ ap (λ (x : ℕ). passes k n x a.w.now) e ∙ passed_right k a.w.now (sym i.wrapped_size_fits.ensures ∙ i.if-not-wrapped_size_fits.false)
+    l.invariant.2 ∙ ap (λ (x : ℕ). passes k n x a.w.now) e ∙ passed_right k a.w.now (sym c.wrapped_size_fits.ensures ∙ c.if-not-wrapped_size_fits.false)

@@ -10,8 +10,7 @@ pub returns : goal.returns
 returns c =
     let b = c.put_back in
     let e = c.encrypt_block-made in
-    let s = c in
-    let a = s.args in
+    let a = c.args in
     let n : length e.result ≡ 16 = search rules in
     b.ensures
     ∙ step_by (standard a.words.now a.rounds) a.t a.i a.w.now e.result c.counter_added.result

@@ -31,10 +31,9 @@ loop-j-preserved c =
 pub returns : goal.returns
 returns c =
     let l = c.loop-j in
-    let i = c in
-    let a = i.args in
+    let a = c.args in
     let k = one_way a.words.now a.rounds in
     let n = length a.w.now / 8 - 1 in
     let e : l.j ≡ 0 = omega arith in
     sym (unpasses_none k n l.w) ∙ ap (λ (x : ℕ). unpasses k n x l.w) (sym e) ∙ l.invariant.2
-    ∙ unpasses_whole k a.w.now ∙ unpassed_right k a.w.now (sym i.wrapped_size_fits.ensures ∙ i.if-not-wrapped_size_fits.false)
+    ∙ unpasses_whole k a.w.now ∙ unpassed_right k a.w.now (sym c.wrapped_size_fits.ensures ∙ c.if-not-wrapped_size_fits.false)

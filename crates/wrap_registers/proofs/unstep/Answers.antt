@@ -10,7 +10,6 @@ returns c =
     let d = c.decrypt_block-made in
     let x = c.counter_added-given in
     let p = c.pair in
-    let s = c in
-    let a = s.args in
+    let a = c.args in
     b.ensures
-    ∙ unstep_by (one_way a.words.now a.rounds) a.t a.i a.w.now p.result x.result d.result (omega (arith, s.requires.1)) p.ensures x.ensures d.ensures
+    ∙ unstep_by (one_way a.words.now a.rounds) a.t a.i a.w.now p.result x.result d.result (omega (arith, c.requires.1)) p.ensures x.ensures d.ensures

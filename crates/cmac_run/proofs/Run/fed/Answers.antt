@@ -9,16 +9,14 @@ use Rattle.cmac_run.proofs.Run.fed.Goals as goal
 
 pub returns-then-part-room : goal.returns-then-part-room
 returns-then-part-room c =
-    let s = c in
-    let x = s.args.self in
+    let x = c.args.self in
     let size : length x.held ≡ 16 = search rules in
     rw (c.piece_filled-piece.ensures, c.room_after-room.ensures)
-    (fed_room x.held size (standard s.args.words.now s.args.rounds) x.chain x.count s.args.part.now (search rules))
+    (fed_room x.held size (standard c.args.words.now c.args.rounds) x.chain x.count c.args.part.now (search rules))
 
 pub returns : goal.returns
 returns c =
-    let s = c in
-    let x = s.args.self in
+    let x = c.args.self in
     let size : length x.held ≡ 16 = search rules in
-    c.run_from.ensures ∙ rw (c.encrypt_block-next.ensures, c.xor.ensures, c.piece_filled-piece.ensures, c.room_after-room.ensures, to_end s.args.part.now (16 - x.count))
-    (fed_over x.held size (standard s.args.words.now s.args.rounds) x.chain x.count s.args.part.now (search rules))
+    c.run_from.ensures ∙ rw (c.encrypt_block-next.ensures, c.xor.ensures, c.piece_filled-piece.ensures, c.room_after-room.ensures, to_end c.args.part.now (16 - x.count))
+    (fed_over x.held size (standard c.args.words.now c.args.rounds) x.chain x.count c.args.part.now (search rules))

@@ -14,5 +14,4 @@ loop-i-preserved c = (search rules, filled_more c.loop-i.invariant.1 (search rul
 pub returns : goal.returns
 returns c =
     let l = c.loop-i in
-    let s = c in
-    shifted_end s.args.block l.left l.i _ s.well_formed.0.1.0.1 (omega arith) l.invariant.1 c.shifted_byte-2.ensures
+    shifted_end c.args.block l.left l.i _ c.well_formed.0.1.0.1 (omega arith) l.invariant.1 c.shifted_byte-2.ensures

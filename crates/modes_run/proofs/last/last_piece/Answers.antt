@@ -14,10 +14,9 @@ returns-then-input-eq0 c =
 
 pub returns : goal.returns
 returns c =
-    let k = c in
-    let a = k.args in
+    let a = c.args in
     let s = a.input.now in
     let some : 0 < length s = search rules in
     let h : length s ≤ 16 = search rules in
-    rw (c.add.ensures, k.encrypt_block-output_block.ensures)
+    rw (c.add.ensures, c.encrypt_block-output_block.ensures)
     (rest_one (machine (one_way a.words.now a.rounds) Ofb) a.chain s a.output.now some h (search rules))

@@ -25,9 +25,8 @@ loop-k-preserved c =
 pub returns : goal.returns
 returns c =
     let l = c.loop-k in
-    let s = c in
-    let a = s.args in
+    let a = c.args in
     let e : l.k ≡ 8 = omega arith in
     l.invariant.2 ∙ ap (paste c.load-block.result 8 (drop (8 * a.i) a.w.now)) e
     ∙ ap (λ (x : List ℕ). paste x 8 (drop (8 * a.i) a.w.now) 8) c.load-block.ensures
-    ∙ paired a.w.now a.i s.requires.0 s.requires.1
+    ∙ paired a.w.now a.i c.requires.0 c.requires.1

@@ -9,9 +9,8 @@ use Rattle.wrap_registers.proofs.halves.put_back.Goals as goal
 
 pub returns : goal.returns
 returns c =
-    let s = c in
-    let a = s.args in
+    let a = c.args in
     let n : length a.block ≡ 16 = search rules in
     c.put_half-2.ensures
     ∙ ap (λ (x : List ℕ). paste x (8 * a.i) (drop 8 a.block) 8) c.put_half.ensures
-    ∙ put_by a.w.now a.i a.block s.requires.0 s.requires.1 n
+    ∙ put_by a.w.now a.i a.block c.requires.0 c.requires.1 n
