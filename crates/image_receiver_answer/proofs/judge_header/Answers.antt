@@ -11,65 +11,45 @@ returns-then-not-count_fits c = hit _ _ _ (ap not (sym c.count_fits.ensures ∙ 
 
 pub returns-then-other_count : goal.returns-then-other_count
 unfolding header_tests
-returns-then-other_count c = let p1 = c in
-    miss _ _ _ _ (ap not (sym p1.count_fits.ensures ∙ p1.if-not-count_fits.false))
+returns-then-other_count c = miss _ _ _ _ (ap not (sym c.count_fits.ensures ∙ c.if-not-count_fits.false))
     (hit _ _ _ (ap not (ne_eqb _ _ c.if-other_count.true)))
 
 pub returns-then-other_release : goal.returns-then-other_release
 unfolding header_tests
-returns-then-other_release c = let p2 = c in
-    let p1 = p2 in
-    miss _ _ _ _ (ap not (sym p1.count_fits.ensures ∙ p1.if-not-count_fits.false))
-    (miss _ _ _ _ (ap not (eq-eqb _ _ p2.if-other_count.false))
+returns-then-other_release c = miss _ _ _ _ (ap not (sym c.count_fits.ensures ∙ c.if-not-count_fits.false))
+    (miss _ _ _ _ (ap not (eq-eqb _ _ c.if-other_count.false))
     (hit _ _ _ (ap not (ne_eqb _ _ c.if-other_release.true))))
 
 pub returns-then-not-below : goal.returns-then-not-below
 unfolding header_tests
-returns-then-not-below c = let p3 = c in
-    let p2 = p3 in
-    let p1 = p2 in
-    miss _ _ _ _ (ap not (sym p1.count_fits.ensures ∙ p1.if-not-count_fits.false))
-    (miss _ _ _ _ (ap not (eq-eqb _ _ p2.if-other_count.false))
-    (miss _ _ _ _ (ap not (eq-eqb _ _ p3.if-other_release.false))
+returns-then-not-below c = miss _ _ _ _ (ap not (sym c.count_fits.ensures ∙ c.if-not-count_fits.false))
+    (miss _ _ _ _ (ap not (eq-eqb _ _ c.if-other_count.false))
+    (miss _ _ _ _ (ap not (eq-eqb _ _ c.if-other_release.false))
     (hit _ _ _ (ap not (le-ltb _ _ c.if-not-below.true)))))
 
 pub returns-then-not-length_fits : goal.returns-then-not-length_fits
 unfolding header_tests
-returns-then-not-length_fits c = let p4 = c in
-    let p3 = p4 in
-    let p2 = p3 in
-    let p1 = p2 in
-    miss _ _ _ _ (ap not (sym p1.count_fits.ensures ∙ p1.if-not-count_fits.false))
-    (miss _ _ _ _ (ap not (eq-eqb _ _ p2.if-other_count.false))
-    (miss _ _ _ _ (ap not (eq-eqb _ _ p3.if-other_release.false))
-    (miss _ _ _ _ (ap not (lt-ltb _ _ p4.if-not-below.false))
+returns-then-not-length_fits c = miss _ _ _ _ (ap not (sym c.count_fits.ensures ∙ c.if-not-count_fits.false))
+    (miss _ _ _ _ (ap not (eq-eqb _ _ c.if-other_count.false))
+    (miss _ _ _ _ (ap not (eq-eqb _ _ c.if-other_release.false))
+    (miss _ _ _ _ (ap not (lt-ltb _ _ c.if-not-below.false))
     (hit _ _ _ (ap not (sym c.length_fits.ensures ∙ c.if-not-length_fits.true))))))
 
 pub returns-then-reserved-ne0 : goal.returns-then-reserved-ne0
 unfolding header_tests
-returns-then-reserved-ne0 c = let p5 = c in
-    let p4 = p5 in
-    let p3 = p4 in
-    let p2 = p3 in
-    let p1 = p2 in
-    miss _ _ _ _ (ap not (sym p1.count_fits.ensures ∙ p1.if-not-count_fits.false))
-    (miss _ _ _ _ (ap not (eq-eqb _ _ p2.if-other_count.false))
-    (miss _ _ _ _ (ap not (eq-eqb _ _ p3.if-other_release.false))
-    (miss _ _ _ _ (ap not (lt-ltb _ _ p4.if-not-below.false))
-    (miss _ _ _ _ (ap not (sym p5.length_fits.ensures ∙ p5.if-not-length_fits.false))
+returns-then-reserved-ne0 c = miss _ _ _ _ (ap not (sym c.count_fits.ensures ∙ c.if-not-count_fits.false))
+    (miss _ _ _ _ (ap not (eq-eqb _ _ c.if-other_count.false))
+    (miss _ _ _ _ (ap not (eq-eqb _ _ c.if-other_release.false))
+    (miss _ _ _ _ (ap not (lt-ltb _ _ c.if-not-below.false))
+    (miss _ _ _ _ (ap not (sym c.length_fits.ensures ∙ c.if-not-length_fits.false))
     (hit _ _ _ (ap not (ne_eqb _ _ c.if-reserved-ne0.true)))))))
 
 pub returns : goal.returns
 unfolding header_tests
-returns c = let p5 = c in
-    let p4 = p5 in
-    let p3 = p4 in
-    let p2 = p3 in
-    let p1 = p2 in
-    miss _ _ _ _ (ap not (sym p1.count_fits.ensures ∙ p1.if-not-count_fits.false))
-    (miss _ _ _ _ (ap not (eq-eqb _ _ p2.if-other_count.false))
-    (miss _ _ _ _ (ap not (eq-eqb _ _ p3.if-other_release.false))
-    (miss _ _ _ _ (ap not (lt-ltb _ _ p4.if-not-below.false))
-    (miss _ _ _ _ (ap not (sym p5.length_fits.ensures ∙ p5.if-not-length_fits.false))
+returns c = miss _ _ _ _ (ap not (sym c.count_fits.ensures ∙ c.if-not-count_fits.false))
+    (miss _ _ _ _ (ap not (eq-eqb _ _ c.if-other_count.false))
+    (miss _ _ _ _ (ap not (eq-eqb _ _ c.if-other_release.false))
+    (miss _ _ _ _ (ap not (lt-ltb _ _ c.if-not-below.false))
+    (miss _ _ _ _ (ap not (sym c.length_fits.ensures ∙ c.if-not-length_fits.false))
     (miss _ _ _ _ (ap not (eq-eqb _ _ c.if-reserved-ne0.false))
     through)))))
