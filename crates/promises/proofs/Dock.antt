@@ -11,6 +11,7 @@ use types.Logic.{Logic}
 use contract.Monad.{Fun, fact, fact_i, fact_use}
 use contract.Lifetimes.{Lfts}
 use denote.Ref.{Bor}
+use denote.MutBor.{MutBor}
 use lib.ListN.{replicate}
 use Rattle.modes_answer.specs.Answers.{mode_number}
 use Rattle.modes.specs.Calls.{mode_answer}
@@ -152,7 +153,7 @@ dock_decrypt_is_decrypt κs a r s p = (_, refl, p)
 
 -- key, IV, input and output as they are lent
 abbrev pub Slices : Type 0
-Slices = Bor (List ℕ) × (Bor (List ℕ) × (Bor (List ℕ) × (Bor (List ℕ) × Unit {0})))
+Slices = Bor (List ℕ) × (Bor (List ℕ) × (Bor (List ℕ) × (MutBor (List ℕ) × Unit {0})))
 
 abbrev pub AsApply : {R : Type 0} → (Applied → R) → Operation → Lfts 4 → Slices → R → Slices → Type 0
 AsApply told o κs a r s = AsBelow told (λ x. apply.Post κs (o, a) x (o, s)) r

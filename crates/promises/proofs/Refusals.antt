@@ -10,6 +10,16 @@ use borrow.Author.Tests.{eqb-true, eqb-false}
 use lib.Dec.{eqb, ltb, leb}
 use lib.ListN.{length, get_or}
 use lib.Seq.{paste}
+use Rattle.image_view.specs.declared.ViewAnswer.{ViewAnswer}
+use Rattle.dock.specs.declared.ScheduleAnswer.{ScheduleAnswer}
+use Rattle.dock.specs.declared.BlockAnswer.{BlockAnswer}
+use Rattle.dock.specs.declared.CheckAnswer.{CheckAnswer}
+use Rattle.dock.specs.declared.StartAnswer.{StartAnswer}
+use Rattle.dock.specs.declared.ReadStartAnswer.{ReadStartAnswer}
+use Rattle.dock.specs.declared.ChainAnswer.{ChainAnswer}
+use Rattle.dock.specs.declared.ResumeAnswer.{ResumeAnswer as ResumedForC}
+use Rattle.dock_turn.specs.declared.TurnAnswer.{TurnAnswer}
+use Rattle.dock_receive.specs.declared.ReceiverAnswer.{ReceiverAnswer}
 use Rattle.octets.specs.Blocks.{BlockCipher}
 use Rattle.image_layout.specs.Layout.{head_of_lem}
 use Rattle.image_layout.specs.declared.Head.{Head}
@@ -594,25 +604,25 @@ no_call_gives_another c n (by_wrap κs a r s p) = found _ _ (of_wrap r (wrap_as_
 no_call_gives_another c n (by_unwrap κs a r s p) = found _ _ (of_unwrap r)
 no_call_gives_another c n (by_made_number κs a r s p) = found (0 ∷ order viewing) r (rw p (of_made _))
 no_call_gives_another c n (by_shown_number κs a r s p) = found (0 ∷ order showing) r (rw p (of_shown _ a.1.0))
-no_call_gives_another c n (by_block_answer_made κs a r s p) = found (0 ∷ order viewing) r.made (rw p (of_view 0 512 a.0 a.1.0).0)
-no_call_gives_another c n (by_block_answer κs a r s p) = found (0 ∷ order showing) r.number (rw p (of_view 0 512 a.0 a.1.0).1)
-no_call_gives_another c n (by_check_answer_made κs a r s p) = found (0 ∷ order viewing) r.made (rw p (of_view 496 16 a.0 a.1.0).0)
-no_call_gives_another c n (by_check_answer κs a r s p) = found (0 ∷ order showing) r.number (rw p (of_view 496 16 a.0 a.1.0).1)
+no_call_gives_another c n (by_block_answer_made κs a r s p) = found (0 ∷ order viewing) r.made (subst (λ (x : ViewAnswer). among (0 ∷ order viewing) x.made ≡ true) (sym p) (of_view 0 512 a.0 a.1.0).0)
+no_call_gives_another c n (by_block_answer κs a r s p) = found (0 ∷ order showing) r.number (subst (λ (x : ViewAnswer). among (0 ∷ order showing) x.number ≡ true) (sym p) (of_view 0 512 a.0 a.1.0).1)
+no_call_gives_another c n (by_check_answer_made κs a r s p) = found (0 ∷ order viewing) r.made (subst (λ (x : ViewAnswer). among (0 ∷ order viewing) x.made ≡ true) (sym p) (of_view 496 16 a.0 a.1.0).0)
+no_call_gives_another c n (by_check_answer κs a r s p) = found (0 ∷ order showing) r.number (subst (λ (x : ViewAnswer). among (0 ∷ order showing) x.number ≡ true) (sym p) (of_view 496 16 a.0 a.1.0).1)
 no_call_gives_another c n (by_seal κs a r s p) = found _ _ (of_seal r (seal_as_told κs a r s p).1)
 no_call_gives_another c n (by_open κs a r s p) = found _ _ (of_open r)
-no_call_gives_another c n (by_dock_schedule κs a r s p) = let b = dock_schedule_is_new κs a r s p in found (0 ∷ order keyed) r.number (rw b.2 (of_key b.0.answer))
-no_call_gives_another c n (by_dock_encrypt κs a r s p) = let b = dock_encrypt_is_encrypt κs a r s p in found (0 ∷ order keyed) r.number (rw b.2 (of_key b.0.answer))
-no_call_gives_another c n (by_dock_decrypt κs a r s p) = let b = dock_decrypt_is_decrypt κs a r s p in found (0 ∷ order keyed) r.number (rw b.2 (of_key b.0.answer))
-no_call_gives_another c n (by_dock_check κs a r s p) = let b = dock_check_is_check κs a r s p in found (0 ∷ order keyed) r.number (rw b.2 (of_key b.0.answer))
-no_call_gives_another c n (by_dock_check_start κs a r s p) = let b = dock_check_start_is_start κs a r s p in found (0 ∷ order keyed) r.number (rw b.2 (of_key b.0.answer))
-no_call_gives_another c n (by_dock_read_start κs a r s p) = let b = dock_read_start_is_read_start κs a r s p in found (0 ∷ order keyed) r.number (rw b.2 (of_key b.0.answer))
+no_call_gives_another c n (by_dock_schedule κs a r s p) = let b = dock_schedule_is_new κs a r s p in found (0 ∷ order keyed) r.number (subst (λ (x : ScheduleAnswer). among (0 ∷ order keyed) x.number ≡ true) (sym b.2) (of_key b.0.answer))
+no_call_gives_another c n (by_dock_encrypt κs a r s p) = let b = dock_encrypt_is_encrypt κs a r s p in found (0 ∷ order keyed) r.number (subst (λ (x : BlockAnswer). among (0 ∷ order keyed) x.number ≡ true) (sym b.2) (of_key b.0.answer))
+no_call_gives_another c n (by_dock_decrypt κs a r s p) = let b = dock_decrypt_is_decrypt κs a r s p in found (0 ∷ order keyed) r.number (subst (λ (x : BlockAnswer). among (0 ∷ order keyed) x.number ≡ true) (sym b.2) (of_key b.0.answer))
+no_call_gives_another c n (by_dock_check κs a r s p) = let b = dock_check_is_check κs a r s p in found (0 ∷ order keyed) r.number (subst (λ (x : CheckAnswer). among (0 ∷ order keyed) x.number ≡ true) (sym b.2) (of_key b.0.answer))
+no_call_gives_another c n (by_dock_check_start κs a r s p) = let b = dock_check_start_is_start κs a r s p in found (0 ∷ order keyed) r.number (subst (λ (x : StartAnswer). among (0 ∷ order keyed) x.number ≡ true) (sym b.2) (of_key b.0.answer))
+no_call_gives_another c n (by_dock_read_start κs a r s p) = let b = dock_read_start_is_read_start κs a r s p in found (0 ∷ order keyed) r.number (subst (λ (x : ReadStartAnswer). among (0 ∷ order keyed) x.number ≡ true) (sym b.2) (of_key b.0.answer))
 no_call_gives_another c n (by_dock_ecb_encrypt κs a r s p) = let b = dock_ecb_encrypt_is_apply κs a r s p in found (0 ∷ order pieces) r (rw b.2 (of_pieces b.0.answer))
 no_call_gives_another c n (by_dock_ecb_decrypt κs a r s p) = let b = dock_ecb_decrypt_is_apply κs a r s p in found (0 ∷ order pieces) r (rw b.2 (of_pieces b.0.answer))
-no_call_gives_another c n (by_dock_cbc_encrypt κs a r s p) = let b = dock_cbc_encrypt_is_apply κs a r s p in found (0 ∷ order pieces) r.number (rw b.2 (of_pieces b.0.answer))
-no_call_gives_another c n (by_dock_cbc_decrypt κs a r s p) = let b = dock_cbc_decrypt_is_apply κs a r s p in found (0 ∷ order pieces) r.number (rw b.2 (of_pieces b.0.answer))
-no_call_gives_another c n (by_dock_cfb_encrypt κs a r s p) = let b = dock_cfb_encrypt_is_apply κs a r s p in found (0 ∷ order pieces) r.number (rw b.2 (of_pieces b.0.answer))
-no_call_gives_another c n (by_dock_cfb_decrypt κs a r s p) = let b = dock_cfb_decrypt_is_apply κs a r s p in found (0 ∷ order pieces) r.number (rw b.2 (of_pieces b.0.answer))
-no_call_gives_another c n (by_dock_ofb κs a r s p) = let b = dock_ofb_is_apply κs a r s p in found (0 ∷ order ofb) r.number (rw b.2 (of_ofb b.0.answer (λ e. not_pieces_not_ofb κs (Ofb, a) b.0 (Ofb, s) b.1 e refl)))
+no_call_gives_another c n (by_dock_cbc_encrypt κs a r s p) = let b = dock_cbc_encrypt_is_apply κs a r s p in found (0 ∷ order pieces) r.number (subst (λ (x : ChainAnswer). among (0 ∷ order pieces) x.number ≡ true) (sym b.2) (of_pieces b.0.answer))
+no_call_gives_another c n (by_dock_cbc_decrypt κs a r s p) = let b = dock_cbc_decrypt_is_apply κs a r s p in found (0 ∷ order pieces) r.number (subst (λ (x : ChainAnswer). among (0 ∷ order pieces) x.number ≡ true) (sym b.2) (of_pieces b.0.answer))
+no_call_gives_another c n (by_dock_cfb_encrypt κs a r s p) = let b = dock_cfb_encrypt_is_apply κs a r s p in found (0 ∷ order pieces) r.number (subst (λ (x : ChainAnswer). among (0 ∷ order pieces) x.number ≡ true) (sym b.2) (of_pieces b.0.answer))
+no_call_gives_another c n (by_dock_cfb_decrypt κs a r s p) = let b = dock_cfb_decrypt_is_apply κs a r s p in found (0 ∷ order pieces) r.number (subst (λ (x : ChainAnswer). among (0 ∷ order pieces) x.number ≡ true) (sym b.2) (of_pieces b.0.answer))
+no_call_gives_another c n (by_dock_ofb κs a r s p) = let b = dock_ofb_is_apply κs a r s p in found (0 ∷ order ofb) r.number (subst (λ (x : ChainAnswer). among (0 ∷ order ofb) x.number ≡ true) (sym b.2) (of_ofb b.0.answer (λ e. not_pieces_not_ofb κs (Ofb, a) b.0 (Ofb, s) b.1 e refl)))
 no_call_gives_another c n (by_dock_wide24_ecb_encrypt κs a r s p) = wide_number Six EncryptEcb a.0.now a.1.0.now a.1.1.0.now a.1.1.1.0.now r (dock_wide24_ecb_encrypt_is_apply κs a r s p).0
 no_call_gives_another c n (by_dock_wide24_ecb_decrypt κs a r s p) = wide_number Six DecryptEcb a.0.now a.1.0.now a.1.1.0.now a.1.1.1.0.now r (dock_wide24_ecb_decrypt_is_apply κs a r s p).0
 no_call_gives_another c n (by_dock_wide24_cbc_encrypt κs a r s p) = wide_number Six EncryptCbc a.0.now a.1.0.now a.1.1.0.now a.1.1.1.0.now r.number (dock_wide24_cbc_encrypt_is_apply κs a r s p).0.0
@@ -622,21 +632,21 @@ no_call_gives_another c n (by_dock_wide32_ecb_decrypt κs a r s p) = wide_number
 no_call_gives_another c n (by_dock_wide32_cbc_encrypt κs a r s p) = wide_number Eight EncryptCbc a.0.now a.1.0.now a.1.1.0.now a.1.1.1.0.now r.number (dock_wide32_cbc_encrypt_is_apply κs a r s p).0.0
 no_call_gives_another c n (by_dock_wide32_cbc_decrypt κs a r s p) = wide_number Eight DecryptCbc a.0.now a.1.0.now a.1.1.0.now a.1.1.1.0.now r.number (dock_wide32_cbc_decrypt_is_apply κs a r s p).0.0
 no_call_gives_another c n (by_dock_write κs a r s p) = let b = dock_write_is_write κs a r s p in found (0 ∷ order writing) r (rw b.2 (of_write b.0))
-no_call_gives_another c n (by_dock_read_turn κs a r s p) = let b = dock_read_turn_is_read_turn κs a r s p in found (0 ∷ order turning) r.number (rw b.2 (of_told b.0.stop).0)
-no_call_gives_another c n (by_dock_read_turn_reason κs a r s p) = let b = dock_read_turn_is_read_turn κs a r s p in found (0 ∷ order judging) r.reason (rw b.2 (of_told b.0.stop).1)
+no_call_gives_another c n (by_dock_read_turn κs a r s p) = let b = dock_read_turn_is_read_turn κs a r s p in found (0 ∷ order turning) r.number (subst (λ (x : TurnAnswer). among (0 ∷ order turning) x.number ≡ true) (sym b.2) (of_told b.0.stop).0)
+no_call_gives_another c n (by_dock_read_turn_reason κs a r s p) = let b = dock_read_turn_is_read_turn κs a r s p in found (0 ∷ order judging) r.reason (subst (λ (x : TurnAnswer). among (0 ∷ order judging) x.reason ≡ true) (sym b.2) (of_told b.0.stop).1)
 no_call_gives_another c n (by_dock_read_complete κs a r s p) = let b = dock_read_complete_is_read_complete κs a r s p in found (0 ∷ order completing) r (rw b.2 (of_completion b.0))
-no_call_gives_another c n (by_dock_read_resume κs a r s p) = let b = dock_read_resume_is_read_resume κs a r s p in found (0 ∷ order resuming) r.number (rw b.2 (of_resume b.0.answer))
-no_call_gives_another c n (by_dock_receive_start κs a r s p) = let b = dock_receive_start_is_receive_start κs a r s p in found (0 ∷ order beginning) r.number (rw b.2 (of_begin b.0.answer))
+no_call_gives_another c n (by_dock_read_resume κs a r s p) = let b = dock_read_resume_is_read_resume κs a r s p in found (0 ∷ order resuming) r.number (subst (λ (x : ResumedForC). among (0 ∷ order resuming) x.number ≡ true) (sym b.2) (of_resume b.0.answer))
+no_call_gives_another c n (by_dock_receive_start κs a r s p) = let b = dock_receive_start_is_receive_start κs a r s p in found (0 ∷ order beginning) r.number (subst (λ (x : ReceiverAnswer). among (0 ∷ order beginning) x.number ≡ true) (sym b.2) (of_begin b.0.answer))
 no_call_gives_another c n (by_dock_receive κs a r s p) =
     let b = dock_receive_is_receive κs a r s p in
-    found (0 ∷ order receiving) r.number (rw b.2 (of_receive _ _ _ _ _ b.0.answer (receive_as_told κs a b.0 s b.1)))
+    found (0 ∷ order receiving) r.number (subst (λ (x : ReceiverAnswer). among (0 ∷ order receiving) x.number ≡ true) (sym b.2) (of_receive _ _ _ _ _ b.0.answer (receive_as_told κs a b.0 s b.1)))
 no_call_gives_another c n (by_dock_receive_complete κs a r s p) = let b = dock_receive_complete_is_receive_complete κs a r s p in found (0 ∷ order completing) r (rw b.2 (of_completion b.0))
 no_call_gives_another c n (by_dock_wrap κs a r s p) = let b = dock_wrap_is_wrap κs a r s p in found (0 ∷ order wrapping) r (rw b.2 (of_wrap b.0 (wrap_as_told κs a b.0 s b.1).1))
 no_call_gives_another c n (by_dock_unwrap κs a r s p) = let b = dock_unwrap_is_unwrap κs a r s p in found (0 ∷ order unwrapping) r (rw b.2 (of_unwrap b.0))
-no_call_gives_another c n (by_dock_view_block_made κs a r s p) = found (0 ∷ order viewing) r.made (rw p (of_view 0 512 a.0 a.1.0).0)
-no_call_gives_another c n (by_dock_view_block κs a r s p) = found (0 ∷ order showing) r.number (rw p (of_view 0 512 a.0 a.1.0).1)
-no_call_gives_another c n (by_dock_view_check_made κs a r s p) = found (0 ∷ order viewing) r.made (rw p (of_view 496 16 a.0 a.1.0).0)
-no_call_gives_another c n (by_dock_view_check κs a r s p) = found (0 ∷ order showing) r.number (rw p (of_view 496 16 a.0 a.1.0).1)
+no_call_gives_another c n (by_dock_view_block_made κs a r s p) = found (0 ∷ order viewing) r.made (subst (λ (x : ViewAnswer). among (0 ∷ order viewing) x.made ≡ true) (sym p) (of_view 0 512 a.0 a.1.0).0)
+no_call_gives_another c n (by_dock_view_block κs a r s p) = found (0 ∷ order showing) r.number (subst (λ (x : ViewAnswer). among (0 ∷ order showing) x.number ≡ true) (sym p) (of_view 0 512 a.0 a.1.0).1)
+no_call_gives_another c n (by_dock_view_check_made κs a r s p) = found (0 ∷ order viewing) r.made (subst (λ (x : ViewAnswer). among (0 ∷ order viewing) x.made ≡ true) (sym p) (of_view 496 16 a.0 a.1.0).0)
+no_call_gives_another c n (by_dock_view_check κs a r s p) = found (0 ∷ order showing) r.number (subst (λ (x : ViewAnswer). among (0 ∷ order showing) x.number ≡ true) (sym p) (of_view 496 16 a.0 a.1.0).1)
 no_call_gives_another c n (by_dock_ccm_seal κs a r s p) = let b = dock_ccm_seal_is_seal κs a r s p in found (0 ∷ order sealing) r (rw b.2 (of_seal b.0 (seal_as_told κs a b.0 s b.1).1))
 no_call_gives_another c n (by_dock_ccm_open κs a r s p) = let b = dock_ccm_open_is_open κs a r s p in found (0 ∷ order opening) r (rw b.2 (of_open b.0))
 
