@@ -293,7 +293,7 @@ static void one_receiver(const uint8_t *block) {
 
 // A receiver with keys whose counts no receiving reaches: they stay at the largest number.
 static void one_sum(uint32_t held, uint32_t bytes, uint32_t length) {
-    uint8_t block[512], store[480], map[1] = {0xff};
+    uint8_t block[512], store[480] = {0}, map[1] = {0xff};
     dock_receiver receiver = dock_receive_start(ekey, sizeof ekey, ckey, sizeof ckey, 1, 9, store, sizeof store, map, sizeof map).receiver;
     expect(map[0] == 0, "a start clears the map");
     receiver.receipt.held = held;
