@@ -19,8 +19,10 @@ returns-then-not-is_round_count-2 c = let a = c.args in
     unusable_chk a.rounds (checks (lent_mac a.cwords.now a.rounds.chk a.key1.now a.key2.now) a.tail.now a.block.now) (sym c.is_round_count-2.ensures ∙ c.if-not-is_round_count-2.true)
 
 pub returns : goal.returns
-returns c =
-    let a = c.args in
+returns c = let n = c in
+    let m = n in
+    let w = m in
+    let a = w.args in
     let k = lent_mac a.cwords.now a.rounds.chk a.key1.now a.key2.now in
-    c.equal.ensures ∙ checks_by k a.tail.now a.block.now c.if-block-ne512.false _ _ c.check_of-made.ensures c.load.ensures
-    ∙ usable_both a.rounds (checks k a.tail.now a.block.now) (sym c.is_round_count.ensures ∙ c.if-not-is_round_count.false) (sym c.is_round_count-2.ensures ∙ c.if-not-is_round_count-2.false)
+    c.equal.ensures ∙ checks_by k a.tail.now a.block.now w.if-block-ne512.false _ _ c.check_of-made.ensures c.load.ensures
+    ∙ usable_both a.rounds (checks k a.tail.now a.block.now) (sym m.is_round_count.ensures ∙ m.if-not-is_round_count.false) (sym n.is_round_count-2.ensures ∙ n.if-not-is_round_count-2.false)

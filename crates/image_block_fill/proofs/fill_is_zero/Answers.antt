@@ -17,6 +17,6 @@ pub zero_after-requires : goal.zero_after-requires
 zero_after-requires c = (c.if-block-ne512.false, c.if-len-ge480.false)
 
 pub returns : goal.returns
-returns c =
-    let a = c.args in
-    fill_of_block (equivalent_cipher a.ewords.now a.dwords.now a.rounds) a.len a.block.now c.if-block-ne512.false _ c.zero_after.ensures
+returns c = let w = c in
+    let a = w.args in
+    fill_of_block (equivalent_cipher a.ewords.now a.dwords.now a.rounds) a.len a.block.now w.if-block-ne512.false _ c.zero_after.ensures
