@@ -1,12 +1,16 @@
--- A list put into another, and a part of a list. Assumes nothing.
-use mathlib.Core.Path.{◌≡◌, ap, sym, ◌∙◌}
-use mathlib.Core.List.{List, [], ◌++◌}
-use Prim.Native.Nat.{ℕ, zero, suc, ◌+◌, ◌-◌, ◌≤◌, ◌<◌}
+-- A list put into another, and two lists compared. Assumes nothing.
+use mathlib.Core.Path.{◌≡◌, ap, ◌∙◌}
+use mathlib.Core.List.{List, ◌∷◌, ◌++◌}
+use Prim.Native.Nat.{ℕ, zero, suc, ◌+◌, ◌-◌, ◌≤◌}
 use native.Mathlib.Omega.{arith}
 use borrow.Author.Tests.{le-leb}
-use lib.ListN.{length, take, drop, replicate, length-replicate, drop_of_length-le, length-drop}
-use lib.Seq.{paste, take-length, take_all, take-nil}
-use Rattle.octets.specs.Octets.{pad_to, over}
+use mathlib.Core.Bool.{◌&&◌}
+use lib.Bits.{bit_or, bit_xor}
+use lib.Dec.{eqb}
+use lib.ListN.{length, drop, replicate, length-replicate}
+use lib.Seq.{paste, take-length}
+use Rattle.octets.specs.Octets.{xor, pad_to, over, same}
+use Rattle.octets.proofs.Same.{same_gather}
 use Rattle.octets_slice.specs.Slices.{copied}
 
 pub copied_fits : (s : List ℕ) (at : ℕ) (w : List ℕ) → at + length s ≤ length w → copied s at w ≡ paste w at s (length s)
@@ -28,16 +32,8 @@ unfolding pad_to
 copied_zeros n s h =
     copied_fits s 0 (replicate n 0) (omega (arith, length-replicate {A = ℕ} n 0)) ∙ paste_front (replicate n 0) s ∙ ap (s ++◌) (drop_zeros (length s) n)
 
--- ---- a part, cut to what is there
+-- ---- one place more of two slices compared: what is gathered so far is 0, and the rest is the same
 
-module _ (s : List ℕ) (from to : ℕ) where
-  pub part_none : to ≤ from → [] ≡ take (to - from) (drop from s)
-  part_none h = let e : to - from ≡ 0 = omega arith in rw e
-
-  pub part_past : length s ≤ from → [] ≡ take (to - from) (drop from s)
-  part_past h = rw (drop_of_length-le s {i = from} h, take-nil)
-
-  pub part_rest : length s < to → take (length s - from) (drop from s) ≡ take (to - from) (drop from s)
-  part_rest h =
-      let l = length-drop from s in
-      take_all (length s - from) (drop from s) (omega arith) ∙ sym (take_all (to - from) (drop from s) (omega arith))
+pub gathered_more : (x y d : ℕ) (a b r s : List ℕ) → r ≡ x ∷ a → s ≡ y ∷ b → (eqb (bit_or d (bit_xor x y)) 0 && same a b) ≡ (eqb d 0 && same r s)
+unfolding xor
+gathered_more x y d a b r s e f = rw (e, f) (same_gather (x ∷ a) (y ∷ b) 0 d (omega arith) (omega arith))

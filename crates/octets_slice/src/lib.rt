@@ -7,11 +7,12 @@ ghost use Rattle.octets.specs.Octets.{same};
 ghost use Rattle.octets_slice.specs.Slices.{copied};
 
 // Puts the whole of s into w from a place on; leaves w as it is if s does not fit.
+#[tactic(auto, using(std::proofs::lemmas::Slice::overwrites), unfolding(crate::specs::Slices::copied))]
 pub fn copy(s: &[u8], w: &mut [u8], at: usize)
     ensures { w.new ≡ copied s.now at w.old }
 {
     if has_room(w.len(), at, s.len()) {
-        put_all(s, w, at);
+        w[at..at + s.len()].copy_from_slice(s);
     }
 }
 
@@ -19,45 +20,29 @@ pub fn copy(s: &[u8], w: &mut [u8], at: usize)
 pub fn has_room(length: usize, at: usize, n: usize) -> bool
     ensures { result ≡ leb (at + n) length }
 {
-    if length < n {
-        return false;
-    }
-    if length - n < at {
-        return false;
-    }
-    true
+    n <= length && at <= length - n
 }
 
 pub fn smaller(a: usize, b: usize) -> usize
     ensures { result ≡ min a b }
 {
-    if a < b { a } else { b }
+    a.min(b)
 }
 
 // The bytes from `from` up to `to`, as far as there are any.
 pub fn part(s: &[u8], from: usize, to: usize) -> &[u8]
     ensures { result.now ≡ take (to - from) (drop from s.now) }
 {
-    if to <= from {
-        return &s[..0];
-    }
-    if s.len() <= from {
-        return &s[..0];
-    }
-    if s.len() < to {
-        return &s[from..];
-    }
-    &s[from..to]
+    let end = to.min(s.len());
+    &s[from.min(end)..end]
 }
 
 // Whether two slices hold the same bytes. All of them are compared before the answer, so the time does not show where two differ.
+#[tactic(auto, using(octets::proofs::Same::same_lengths))]
 pub fn equal(a: &[u8], b: &[u8]) -> bool
     ensures { result ≡ same a.now b.now }
 {
-    if a.len() != b.len() {
-        return false;
-    }
-    differences(a, b) == 0
+    a.len() == b.len() && differences(a, b) == 0
 }
 
 // The differences of two slices of one length, collected in one byte, which is 0 if there is none.
@@ -66,17 +51,8 @@ fn differences(a: &[u8], b: &[u8]) -> u8
     ensures { eqb result 0 ≡ same a.now b.now }
 {
     let mut gathered: u8 = 0;
-    for k in 0..a.len() {
-        gathered = gathered | (a[k] ^ b[k]);
+    for (x, y) in a.iter().zip(b) {
+        gathered |= x ^ y;
     }
     gathered
-}
-
-fn put_all(s: &[u8], w: &mut [u8], at: usize)
-    requires { at + length s.now ≤ length w.old }
-    ensures { w.new ≡ paste w.old at s.now (length s.now) }
-{
-    for k in 0..s.len() {
-        w[at + k] = s[k];
-    }
 }

@@ -1,19 +1,8 @@
-use Rattle.octets.specs.Octets as octets
-use Rattle.octets.proofs.Same.{same_gather, same_gathered}
-use mathlib.Core.Path.{refl, sym, ◌∙◌}
-use native.Mathlib.Omega.{arith}
+use Rattle.std.proofs.Common.{rules}
+use Rattle.octets_slice.proofs.Laws.{gathered_more}
 use Rattle.octets_slice.proofs.differences.Goals as goal
 
-pub loop-k-init : goal.loop-k-init
-loop-k-init c = (omega arith, refl, refl)
-
-pub loop-k-preserved : goal.loop-k-preserved
-unfolding octets.xor
-loop-k-preserved c = let l = c.loop-k in
-    let a = c.args in
-    (omega arith, l.invariant.1, same_gather a.a.now a.b.now l.k l.gathered (omega arith) (omega arith) ∙ l.invariant.2)
-
-pub returns : goal.returns
-returns c = let l = c.loop-k in
-    let a = c.args in
-    sym (same_gathered a.a.now a.b.now l.k l.gathered (omega arith) (omega arith)) ∙ l.invariant.2
+pub loop-x-preserved : goal.loop-x-preserved
+loop-x-preserved c = let l = c.loop-x in
+    let steps = c.in-Some.ensures.steps in
+    (search rules, cc (gathered_more _ _ l.gathered _ _ _ _ steps.0 steps.1, l.invariant.1))
