@@ -1,19 +1,21 @@
 // The rules on the single numbers of a block's header, and the editions.
 #![tactic(auto)]
 
-ghost use Rattle.std.specs.Prelude.{◌≡◌, ◌&&◌, ◌||◌, ◌+◌, eqb, ltb, leb};
+ghost use Rattle.std.specs.Prelude.{◌≡◌, ◌+◌, ◌==◌, ◌≤◌, ◌&&◌, ◌||◌, nat_le, nat_lt};
 ghost use Rattle.image_layout.specs.Layout.{body_size};
 ghost use Rattle.image_limits.specs.Fits.{count_fits_of, length_fits};
 ghost use Rattle.image_limits.specs.Marks.{is_edition, mark_of, tail_size};
 ghost use Rattle.image_limits.specs.Marks as spec;
 
+#[tactic(auto, unfolding(crate::specs::Fits::count_fits_of))]
 pub fn count_fits(count: u32) -> bool
     ensures { result ≡ count_fits_of count }
 {
-    if count == 0 { false } else { count <= 65535 }
+    matches!(count, 1..=65535)
 }
 
 // Whether a block of this number, of so many, may hold so many bytes.
+#[tactic(auto, unfolding(crate::specs::Fits::length_fits))]
 pub fn length_fits(number: u32, count: u32, len: usize) -> bool
     ensures { result ≡ length_fits number count len }
 {
@@ -24,16 +26,16 @@ pub fn length_fits(number: u32, count: u32, len: usize) -> bool
     }
 }
 
+// An edition is a number and no enum: a progress that C lends may hold any number, and each is answered.
+#[tactic(auto, unfolding(crate::specs::Marks::is_edition))]
 pub fn is_edition(edition: u32) -> bool
     ensures { result ≡ is_edition edition }
 {
-    if edition == 1 {
-        return true;
-    }
-    edition == 2
+    matches!(edition, 1 | 2)
 }
 
 // The edition that a value in bytes 14 and 15 selects.
+#[tactic(auto, unfolding(crate::specs::Marks::selected))]
 pub fn edition_selected(reserved: u16) -> u32
     ensures { result ≡ spec.selected reserved }
 {
@@ -41,19 +43,19 @@ pub fn edition_selected(reserved: u16) -> u32
 }
 
 // The mark of a block of an edition; if there is no such edition, a value that two bytes cannot hold.
+#[tactic(auto, unfolding(crate::specs::Marks::mark_of))]
 pub fn mark_of(edition: u32) -> u32
     ensures { result ≡ mark_of edition }
 {
-    if edition == 1 {
-        return 0;
+    match edition {
+        1 => 0,
+        2 => 2,
+        _ => 65536,
     }
-    if edition == 2 {
-        return 2;
-    }
-    65536
 }
 
 // How many bytes of the check of the block before are covered by the check of a block.
+#[tactic(auto, unfolding(crate::specs::Marks::tail_size))]
 pub fn tail_size(edition: u32) -> usize
     ensures { result ≡ tail_size edition }
 {
@@ -62,23 +64,13 @@ pub fn tail_size(edition: u32) -> usize
 
 // Asked so that no sum can wrap.
 fn is_last(number: u32, count: u32) -> bool
-    ensures { result ≡ eqb (number + 1) count }
+    ensures { result ≡ (number + 1 == count) }
 {
-    if number < count {
-        count - number == 1
-    } else {
-        false
-    }
+    number < count && count - number == 1
 }
 
 fn last_fits(count: u32, len: usize) -> bool
-    ensures { result ≡ leb len body_size && (ltb 0 len || eqb count 1) }
+    ensures { result ≡ (nat_le len body_size && (nat_lt 0 len || count == 1)) }
 {
-    if 480 < len {
-        return false;
-    }
-    if len == 0 {
-        return count == 1;
-    }
-    true
+    len <= 480 && (len > 0 || count == 1)
 }
