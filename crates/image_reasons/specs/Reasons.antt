@@ -1,8 +1,6 @@
 -- The reasons, and tests asked in order (docs/REFUSALS.md). Assumes nothing: these are definitions.
-use Rattle.std.specs.Prelude.{ℕ, Bool, cond, List, [], ◌∷◌}
+use Rattle.std.specs.Prelude.{ℕ, Bool, cond, List, [], ◌∷◌, Option, None, Some}
 use Rattle.image_reasons.specs.declared.Reason.{Reason}
-use Rattle.image_reasons.specs.declared.Value.{Value}
-use Rattle.image_reasons.specs.declared.Value.TheVariants.{Held, NoValue}
 use Rattle.image_reasons.specs.declared.Reason.TheVariants.{AfterLast, CheckWrong, Count, Number, OtherCount, OtherRelease, Length, Reserved, FillNotZero}
 use Rattle.image_reasons.specs.declared.Verdict.{Verdict}
 use Rattle.image_reasons.specs.declared.Verdict.TheVariants.{Accepted, Refused}
@@ -37,9 +35,9 @@ verdict_number Accepted = 0
 verdict_number (Refused r) = reason_number r
 
 -- a value as the code has it
-abbrev pub value_of : List ℕ → Value
-value_of [] = NoValue
-value_of (v ∷ vs) = Held v
+abbrev pub value_of : List ℕ → Option ℕ
+value_of [] = None
+value_of (v ∷ vs) = Some v
 
 -- tests, each with the reason that it gives if it holds: the first that holds refuses
 unfoldable pub first_of : List (Bool × Reason) → Verdict

@@ -5,7 +5,7 @@ ghost use Rattle.std.specs.Prelude.{◌≡◌};
 ghost use Rattle.image_reasons.specs.Reasons.{reason_number, reason_value, value_of};
 
 // Why a block was refused, with the value found.
-#[derive(Clone, Copy)]
+#[derive(Clone, Copy, Debug, PartialEq, Eq)]
 pub enum Reason {
     AfterLast,
     CheckWrong,
@@ -18,48 +18,39 @@ pub enum Reason {
     FillNotZero,
 }
 
-// The value that a reason holds, if it holds one.
-#[derive(Clone, Copy)]
-pub enum Value {
-    Held(u32),
-    NoValue,
-}
-
 impl Reason {
     pub fn number(self) -> u32
         ensures { result ≡ reason_number self }
     {
         match self {
-            Reason::Count(n) => 7,
-            Reason::Number(n) => 8,
-            Reason::OtherCount(n) => 9,
-            Reason::OtherRelease(n) => 10,
-            Reason::Length(n) => 12,
-            Reason::Reserved(n) => 13,
+            Reason::Count(_) => 7,
+            Reason::Number(_) => 8,
+            Reason::OtherCount(_) => 9,
+            Reason::OtherRelease(_) => 10,
+            Reason::Length(_) => 12,
+            Reason::Reserved(_) => 13,
             Reason::CheckWrong => 14,
             Reason::FillNotZero => 15,
             Reason::AfterLast => 16,
         }
     }
 
-    pub fn value(self) -> Value
+    // The value that a reason holds, if it holds one.
+    pub fn value(self) -> Option<u32>
         ensures { result ≡ value_of (reason_value self) }
     {
         match self {
-            Reason::Count(n) => Value::Held(n),
-            Reason::Number(n) => Value::Held(n),
-            Reason::OtherCount(n) => Value::Held(n),
-            Reason::OtherRelease(n) => Value::Held(n),
-            Reason::Length(n) => Value::Held(n as u32),
-            Reason::Reserved(n) => Value::Held(n as u32),
-            Reason::CheckWrong => Value::NoValue,
-            Reason::FillNotZero => Value::NoValue,
-            Reason::AfterLast => Value::NoValue,
+            Reason::Count(n)
+            | Reason::Number(n)
+            | Reason::OtherCount(n)
+            | Reason::OtherRelease(n) => Some(n),
+            Reason::Length(n) | Reason::Reserved(n) => Some(u32::from(n)),
+            Reason::CheckWrong | Reason::FillNotZero | Reason::AfterLast => None,
         }
     }
 }
 
-#[derive(Clone, Copy)]
+#[derive(Clone, Copy, Debug, PartialEq, Eq)]
 pub enum Verdict {
     Accepted,
     Refused(Reason),
