@@ -1,9 +1,13 @@
 -- What follows from how far a reader has come (docs/IMAGE.md). Assumes nothing: these are definitions.
-use Rattle.std.specs.Prelude.{ℕ, Bool, ◌&&◌, cond, eqb, ltb, leb}
+use Rattle.std.specs.Prelude.{ℕ, Bool, ◌&&◌, cond, eqb, ltb, leb, replicate}
 use Rattle.image_limits.specs.Marks.{selected, mark_of}
 use Rattle.image_progress.specs.declared.Progress.{Progress}
 use Rattle.image_progress.specs.declared.Completion.{Completion}
 use Rattle.image_progress.specs.declared.Completion.TheVariants.{Complete, NotComplete}
+
+-- before the first block: nothing is fixed, and the check of the block before is zeros
+abbrev pub start : Progress
+start = record { next = 0; count = 0; release = 0; edition = 0; last = replicate 16 0 }
 
 -- 0 if an image is complete, and 17 if not (docs/REFUSALS.md)
 abbrev pub completion_number : Completion → ℕ
