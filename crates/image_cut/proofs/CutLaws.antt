@@ -1,18 +1,19 @@
 -- Laws on a payload that is cut into blocks: the count by cases, the parts that join to the payload, and what the writer asks of
 -- each. Assumes nothing.
 use Prim.Native.Nat.{ℕ, zero, suc, ◌+◌, ◌-◌, ◌*◌, ◌/◌, ◌≤◌, ◌<◌, min}
-use mathlib.Core.Path.{◌≡◌, refl, ap, sym, ◌∙◌}
+use mathlib.Core.Path.{◌≡◌, refl, ap, ap₂, sym, ◌∙◌}
 use mathlib.Core.Bool.{Bool, true, false, ◌||◌}
-use mathlib.Core.List.{List, []}
+use mathlib.Core.List.{List}
 use native.Mathlib.Omega.{arith}
 use native.Mathlib.Nat.{max-eq_right}
-use lib.ListN.{length, take, drop, length-take, length-drop, drop_of_length-le}
-use lib.Seq.{take_all, take-nil, drop-drop, take-add}
+use lib.ListN.{length, take, drop, length-take, length-drop}
+use lib.Seq.{take_all, drop-drop, take-add}
 use lib.Dec.{eqb}
+use Rattle.std.proofs.lemmas.List.{take_min, drop_min}
 use borrow.Author.Tests.{lt-ltb, le-ltb, le-leb, eq-eqb, eqb-true, eqb-false}
 use Rattle.image_limits.specs.Fits.{count_fits_of, length_fits}
 use Rattle.modes_spec.specs.Pieces.{piece}
-use Rattle.image_cut.specs.declared.Counted.TheVariants.{Blocks, TooLong}
+use Rattle.std.specs.Prelude.{None, Some}
 use Rattle.image_cut.specs.Cut.{most, blocks_of, count_of, joined}
 
 -- ---- the count
@@ -25,30 +26,24 @@ pub blocks_some : (n : ℕ) → 0 < n → blocks_of n ≡ (n + 479) / 480
 unfolding blocks_of
 blocks_some n h = max-eq_right (omega arith)
 
-pub count_over : (n : ℕ) → most < n → count_of n ≡ TooLong
+pub count_over : (n : ℕ) → most < n → count_of n ≡ None
 unfolding count_of
 count_over n h = rw (lt-ltb most n h)
 
-pub count_within : (n : ℕ) → n ≤ most → count_of n ≡ Blocks (blocks_of n)
+pub count_within : (n : ℕ) → n ≤ most → count_of n ≡ Some (blocks_of n)
 unfolding count_of
 count_within n h = rw (le-ltb most n h)
 
-pub count_none : (n : ℕ) → n ≡ 0 → count_of n ≡ Blocks 1
-count_none n e = rw (e) (count_within 0 (omega arith) ∙ ap Blocks blocks_none)
-
-pub count_some : (n : ℕ) → 0 < n → n ≤ most → count_of n ≡ Blocks ((n + 479) / 480)
-count_some n h g = count_within n g ∙ ap Blocks (blocks_some n h)
-
 -- ---- the parts
 
-pub part_past : (p : List ℕ) (i : ℕ) → length p / 480 < i → piece 480 p i ≡ []
-part_past p i h = rw (drop_of_length-le p {i = i * 480} (omega arith)) (take-nil 480)
-
--- the part as the code cuts it: from its place to the end first
-pub part_here : (p : List ℕ) (i : ℕ) → take 480 (take (length p - i * 480) (drop (i * 480) p)) ≡ piece 480 p i
-part_here p i =
-    let e : length (drop (i * 480) p) ≡ length p - i * 480 = length-drop (i * 480) p in
-    ap (take 480) (take_all (length p - i * 480) (drop (i * 480) p) (omega (arith, e)))
+-- the part as the code cuts it: from its place, or the end, to the end first
+pub part_here : (p : List ℕ) (i k n : ℕ) → k ≡ min (i * 480) (length p) → n ≡ min (length p - k) 480 → take n (take (length p - k) (drop k p)) ≡ piece 480 p i
+part_here p i k n ek en =
+    let e : length (drop k p) ≡ length p - k = length-drop k p in
+    let rest : take (length p - k) (drop k p) ≡ drop (i * 480) p =
+    take_all (length p - k) (drop k p) (omega (arith, e)) ∙ ap (λ (j : ℕ). drop j p) ek ∙ drop_min (i * 480) p in
+    let size : n ≡ min 480 (length (drop (i * 480) p)) = omega (arith, length-drop (i * 480) p) in
+    ap₂ take size rest ∙ take_min 480 (drop (i * 480) p)
 
 -- what a turn of the sealing takes: part i behind the first n blocks is part n + i
 pub part_later : (p : List ℕ) (n i : ℕ) → piece 480 (drop (n * 480) p) i ≡ piece 480 p (n + i)

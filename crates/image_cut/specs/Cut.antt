@@ -1,8 +1,6 @@
 -- A payload cut into blocks of 480 bytes. Assumes nothing: these are definitions.
-use Rattle.std.specs.Prelude.{cond, ℕ, zero, suc, ◌+◌, ◌/◌, max, List, [], ◌++◌, ltb}
+use Rattle.std.specs.Prelude.{cond, ℕ, zero, suc, ◌+◌, ◌/◌, max, List, [], ◌++◌, Option, None, Some, ltb}
 use Rattle.modes_spec.specs.Pieces.{piece}
-use Rattle.image_cut.specs.declared.Counted.{Counted}
-use Rattle.image_cut.specs.declared.Counted.TheVariants.{Blocks, TooLong}
 
 -- the most bytes that an image can hold
 abbrev pub most : ℕ
@@ -12,8 +10,9 @@ most = 31456800
 unfoldable pub blocks_of : ℕ → ℕ
 blocks_of n = max 1 ((n + 479) / 480)
 
-unfoldable pub count_of : ℕ → Counted
-count_of n = cond (ltb most n) TooLong (Blocks (blocks_of n))
+-- none if they are more than an image can hold
+unfoldable pub count_of : ℕ → Option ℕ
+count_of n = cond (ltb most n) None (Some (blocks_of n))
 
 -- the parts of the first n blocks, joined: the bytes of block i are piece i of 480
 unfoldable pub joined : List ℕ → ℕ → List ℕ

@@ -2,7 +2,6 @@
 ghost use Rattle.std.specs.Prelude.{◌<◌, ◌≤◌};
 
 use crate::{clock, input, keep, lent, line, system, tell};
-use image_cut::Counted;
 use image_writer_answer::Numbers;
 use line::Told;
 use std::fs::File;
@@ -297,7 +296,7 @@ fn seal_from(rt: &impl System, keys: &[u8], release: u32, edition: u32, terminal
     };
     let mut from = &file;
     let size = input::size_of(&mut from);
-    let Counted::Blocks(count) = image_cut::block_count(size) else {
+    let Some(count) = image_cut::block_count(size) else {
         too_long(rt);
         return;
     };

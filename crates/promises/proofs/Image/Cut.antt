@@ -13,7 +13,7 @@ use Rattle.image_spec.specs.Edition.{Edition, no_check}
 use Rattle.image_spec.specs.Sealed.{block_for}
 use Rattle.promises.proofs.Image.Words.{blocks, written, image}
 use Rattle.modes_spec.specs.Pieces.{piece}
-use Rattle.image_cut.specs.declared.Counted.TheVariants.{Blocks, TooLong}
+use Rattle.std.specs.Prelude.{None, Some}
 use Rattle.image_cut.specs.Cut.{most, blocks_of, joined}
 use Rattle.image_cut.proofs.CutLaws as laws
 use Rattle.image_cut.proofs.block_count.Reads as block_count
@@ -25,10 +25,10 @@ block_count_asks_nothing κs a = tt
 pub block_count_determined : (κs : _) (a : _) (r r' : _) (s s' : _) → block_count.Post κs a r s → block_count.Post κs a r' s' → r ≡ r'
 block_count_determined κs a r r' s s' p q = p ∙ sym q
 
-pub block_count_as_told : (κs : _) (a : _) (r : _) (s : _) → block_count.Post κs a r s → most < a.0 → r ≡ TooLong
+pub block_count_as_told : (κs : _) (a : _) (r : _) (s : _) → block_count.Post κs a r s → most < a.0 → r ≡ None
 block_count_as_told κs a r s p h = p ∙ laws.count_over _ h
 
-pub block_count_done : (κs : _) (a : _) (r : _) (s : _) → block_count.Post κs a r s → a.0 ≤ most → r ≡ Blocks (blocks_of a.0)
+pub block_count_done : (κs : _) (a : _) (r : _) (s : _) → block_count.Post κs a r s → a.0 ≤ most → r ≡ Some (blocks_of a.0)
 block_count_done κs a r s p h = p ∙ laws.count_within _ h
 
 pub block_part_asks_nothing : (κs : _) (a : _) → block_part.Asked κs a
