@@ -6,7 +6,7 @@ ghost use Rattle.aes.specs.Calls.{encrypt_under, decrypt_under};
 
 use aes_rounds::encrypt_block;
 use aes_rounds_inverse::decrypt_block;
-use aes_schedule::{KeyAnswer, answer_of, schedule_into};
+use aes_schedule::{KeyAnswer, KeySchedule};
 use aes_schedule_inverse::invert;
 
 // The answer for the key, and the block: zeros if the key was refused.
@@ -19,26 +19,22 @@ pub struct Ciphered {
 pub fn encrypt(key: &[u8], block: [u8; 16]) -> Ciphered
     ensures { result ≡ encrypt_under key.now block }
 {
-    let mut words = [0u32; 60];
-    let rounds = schedule_into(key, &mut words);
-    let answer = answer_of(rounds);
-    let ciphertext = encrypt_block(&words, rounds, block);
+    let mut schedule = KeySchedule::none();
+    let answer = schedule.expand(key);
     Ciphered {
         answer,
-        block: ciphertext,
+        block: encrypt_block(&schedule, block),
     }
 }
 
 pub fn decrypt(key: &[u8], block: [u8; 16]) -> Ciphered
     ensures { result ≡ decrypt_under key.now block }
 {
-    let mut words = [0u32; 60];
-    let rounds = schedule_into(key, &mut words);
-    let answer = answer_of(rounds);
-    invert(&mut words, rounds);
-    let plaintext = decrypt_block(&words, rounds, block);
+    let mut schedule = KeySchedule::none();
+    let answer = schedule.expand(key);
+    invert(&mut schedule);
     Ciphered {
         answer,
-        block: plaintext,
+        block: decrypt_block(&schedule, block),
     }
 }

@@ -1,14 +1,13 @@
 -- A block and a piece of a list added up, in words and in bytes. Assumes nothing.
 use mathlib.Core.Path.{◌≡◌, refl, sym, ap, ap₂, ◌∙◌}
-use mathlib.Core.Bool.{Bool, true, false, cond}
-use mathlib.Core.List.{List, [], ◌∷◌}
-use Prim.Native.Nat.{ℕ, zero, suc, ◌+◌, ◌≤◌, ◌<◌}
+use mathlib.Core.List.{List}
+use Prim.Native.Nat.{ℕ, ◌+◌, ◌≤◌, ◌<◌}
 use native.Mathlib.Nat.{add-zero}
 use native.Mathlib.Omega.{arith}
-use lib.ListN.{length, get_or, take, drop, replicate, length-take, length-drop}
+use lib.ListN.{length, get_or, take, drop, replicate}
 use lib.Seq.{get_or-take, get_or-drop}
 use Rattle.octets.specs.Octets.{xor, tabulate, Octets}
-use Rattle.octets.specs.Words.{word, byte, word_at, bytes_of}
+use Rattle.octets.specs.Words.{word_at, bytes_of}
 use Rattle.octets.specs.Blocks.{◌⊕◌}
 use Rattle.octets.proofs.Words.{byte_xor}
 use Rattle.octets.proofs.Xor.{zero_xor}

@@ -12,41 +12,39 @@ ghost use Rattle.aes_state.specs.Model.{block_of};
 ghost use Rattle.aes_spec.specs.Cipher.{encrypt_block};
 
 use crate::loops::cipher;
-use aes_schedule::is_round_count;
+use aes_schedule::KeySchedule;
 use aes_state::{Columns, block_of, columns_of};
 use aes_words::join;
 use octets_slice::has_room;
 
 // The block under a schedule; zeros if no key gives so many rounds.
-pub fn encrypt_block(words: &[u32; 60], rounds: usize, block: [u8; 16]) -> [u8; 16]
-    ensures { result ≡ encrypt_block s_box words.now rounds block }
+pub fn encrypt_block(schedule: &KeySchedule, block: [u8; 16]) -> [u8; 16]
+    ensures { result ≡ encrypt_block s_box schedule.now.words schedule.now.rounds block }
 {
-    let mut value = [0u8; 16];
-    take_in(words, rounds, &mut value, &block, 0);
+    let mut value = [0; 16];
+    take_in(schedule, &mut value, &block, 0);
     value
 }
 
 // Adds the 16 bytes of a slice from a place on to a value, which becomes the cipher of the sum; it stays if the slice ends before.
-pub fn absorb(words: &[u32; 60], rounds: usize, value: &mut [u8; 16], part: &[u8], at: usize)
-    ensures { value.new ≡ cond (fits (length part.now) at) (encrypt_block s_box words.now rounds (value.old ⊕ take 16 (drop at part.now))) value.old }
+pub fn absorb(schedule: &KeySchedule, value: &mut [u8; 16], part: &[u8], at: usize)
+    ensures { value.new ≡ cond (fits (length part.now) at) (encrypt_block s_box schedule.now.words schedule.now.rounds (value.old ⊕ take 16 (drop at part.now))) value.old }
 {
     if has_room(part.len(), at, 16) {
-        take_in(words, rounds, value, part, at);
+        take_in(schedule, value, part, at);
     }
 }
 
 // The same for bytes that exist.
-fn take_in(words: &[u32; 60], rounds: usize, value: &mut [u8; 16], part: &[u8], at: usize)
+fn take_in(schedule: &KeySchedule, value: &mut [u8; 16], part: &[u8], at: usize)
     requires { at + 16 ≤ length part.now }
-    ensures { value.new ≡ encrypt_block s_box words.now rounds (value.old ⊕ take 16 (drop at part.now)) }
+    ensures { value.new ≡ encrypt_block s_box schedule.now.words schedule.now.rounds (value.old ⊕ take 16 (drop at part.now)) }
 {
-    if is_round_count(rounds) {
-        let v = *value;
-        let r = block_of(cipher(words, rounds, added(v, part, at)));
-        *value = r;
+    *value = if schedule.is_usable() {
+        block_of(cipher(schedule, added(*value, part, at)))
     } else {
-        *value = [0u8; 16];
-    }
+        [0; 16]
+    };
 }
 
 // A block and a piece of a slice added up, in columns.

@@ -11,41 +11,41 @@ ghost use Rattle.aes_rounds.specs.Model.{sub_shifted};
 
 use aes_lookup_forward::forward_at;
 use aes_lookup_sbox::sub_at;
-use aes_schedule::RoundKeyNumber;
+use aes_schedule::{KeySchedule, RoundKeyNumber};
 use aes_state::{Columns, as_columns, columns_of};
 
-pub fn cipher(words: &[u32; 60], rounds: usize, s: Columns) -> Columns
-    requires { (0 < rounds) × (rounds < 15) }
-    ensures { block_of result ≡ spec.cipher aes s_box words.now rounds (block_of s) }
+pub fn cipher(schedule: &KeySchedule, s: Columns) -> Columns
+    requires { (0 < schedule.now.rounds) × (schedule.now.rounds < 15) }
+    ensures { block_of result ≡ spec.cipher aes s_box schedule.now.words schedule.now.rounds (block_of s) }
 {
-    let last = last_bytes(forth(words, rounds, s));
-    as_columns(add_round_key(words, RoundKeyNumber(rounds), columns_of(last)))
+    let last = last_bytes(forth(schedule, s));
+    as_columns(add_round_key(schedule, RoundKeyNumber(schedule.rounds), columns_of(last)))
 }
 
 // All rounds but the last.
-fn forth(words: &[u32; 60], rounds: usize, s: Columns) -> [u32; 4]
-    requires { (0 < rounds) × (rounds < 15) }
-    ensures { bytes_of result ≡ spec.rounds aes s_box words.now (rounds - 1) (add_round_key aes words.now 0 (block_of s)) }
+fn forth(schedule: &KeySchedule, s: Columns) -> [u32; 4]
+    requires { (0 < schedule.now.rounds) × (schedule.now.rounds < 15) }
+    ensures { bytes_of result ≡ spec.rounds aes s_box schedule.now.words (schedule.now.rounds - 1) (add_round_key aes schedule.now.words 0 (block_of s)) }
 {
-    let mut t = add_round_key(words, RoundKeyNumber(0), s);
-    for n in 1..rounds {
-        let u = forth_columns(words, n, t);
+    let mut t = add_round_key(schedule, RoundKeyNumber(0), s);
+    for n in 1..schedule.rounds {
+        let u = forth_columns(schedule, n, t);
         t = u;
     }
     t
 }
 
 // Round n, not the last: each column is mixed, and its word of the round key is added. Beginning at the third column takes the fewest instructions.
-fn forth_columns(words: &[u32; 60], n: usize, t: [u32; 4]) -> [u32; 4]
+fn forth_columns(schedule: &KeySchedule, n: usize, t: [u32; 4]) -> [u32; 4]
     requires { n < 15 }
-    ensures { bytes_of result ≡ spec.one_round aes s_box words.now n (bytes_of t) }
+    ensures { bytes_of result ≡ spec.one_round aes s_box schedule.now.words n (bytes_of t) }
 {
     let first = RoundKeyNumber(n).first_word();
     let i = first.0;
     let mut u = [0u32; 4];
     for m in 0..4 {
         let j = (m + 2) % 4;
-        u[j] = forth_column(t, j) ^ words[i + j];
+        u[j] = forth_column(t, j) ^ schedule.words[i + j];
     }
     u
 }
@@ -73,17 +73,17 @@ fn forth_row(c: u32, k: usize) -> u32
 }
 
 // ADDROUNDKEY: the columns as an array, with round key n added.
-fn add_round_key(words: &[u32; 60], n: RoundKeyNumber, s: Columns) -> [u32; 4]
+fn add_round_key(schedule: &KeySchedule, n: RoundKeyNumber, s: Columns) -> [u32; 4]
     requires { n.0 < 15 }
-    ensures { bytes_of result ≡ add_round_key aes words.now n.0 (block_of s) }
+    ensures { bytes_of result ≡ add_round_key aes schedule.now.words n.0 (block_of s) }
 {
     let first = n.first_word();
     let i = first.0;
     [
-        s.0 ^ words[i],
-        s.1 ^ words[i + 1],
-        s.2 ^ words[i + 2],
-        s.3 ^ words[i + 3],
+        s.0 ^ schedule.words[i],
+        s.1 ^ schedule.words[i + 1],
+        s.2 ^ schedule.words[i + 2],
+        s.3 ^ schedule.words[i + 3],
     ]
 }
 

@@ -11,42 +11,40 @@ ghost use Rattle.aes_rounds_inverse.specs.Model.{inv_sub_shifted};
 
 use aes_lookup_inv_sbox::inv_sub_at;
 use aes_lookup_inverse::inverse_at;
-use aes_schedule::RoundKeyNumber;
+use aes_schedule::{KeySchedule, RoundKeyNumber};
 use aes_state::{Columns, as_columns, columns_of};
 
-pub fn eq_inv_cipher(words: &[u32; 60], rounds: usize, s: Columns) -> Columns
-    requires { (0 < rounds) × (rounds < 15) }
-    ensures { block_of result ≡ spec.eq_inv_cipher aes inv_s_box words.now rounds (block_of s) }
+pub fn eq_inv_cipher(schedule: &KeySchedule, s: Columns) -> Columns
+    requires { (0 < schedule.now.rounds) × (schedule.now.rounds < 15) }
+    ensures { block_of result ≡ spec.eq_inv_cipher aes inv_s_box schedule.now.words schedule.now.rounds (block_of s) }
 {
-    let last = last_bytes(back(words, rounds, s));
-    as_columns(add_round_key(words, RoundKeyNumber(0), columns_of(last)))
+    let last = last_bytes(back(schedule, s));
+    as_columns(add_round_key(schedule, RoundKeyNumber(0), columns_of(last)))
 }
 
 // All rounds but the last, counted down.
-fn back(words: &[u32; 60], rounds: usize, s: Columns) -> [u32; 4]
-    requires { (0 < rounds) × (rounds < 15) }
-    ensures { bytes_of result ≡ spec.eq_rounds aes inv_s_box words.now (rounds - 1) (add_round_key aes words.now rounds (block_of s)) }
+fn back(schedule: &KeySchedule, s: Columns) -> [u32; 4]
+    requires { (0 < schedule.now.rounds) × (schedule.now.rounds < 15) }
+    ensures { bytes_of result ≡ spec.eq_rounds aes inv_s_box schedule.now.words (schedule.now.rounds - 1) (add_round_key aes schedule.now.words schedule.now.rounds (block_of s)) }
 {
-    let mut t = add_round_key(words, RoundKeyNumber(rounds), s);
-    let mut n = rounds - 1;
-    while n > 0 {
-        let u = back_columns(words, n, t);
+    let mut t = add_round_key(schedule, RoundKeyNumber(schedule.rounds), s);
+    for n in (1..schedule.rounds).rev() {
+        let u = back_columns(schedule, n, t);
         t = u;
-        n -= 1;
     }
     t
 }
 
 // Round n, not the last: each column is mixed back, and its word of the round key is added.
-fn back_columns(words: &[u32; 60], n: usize, t: [u32; 4]) -> [u32; 4]
+fn back_columns(schedule: &KeySchedule, n: usize, t: [u32; 4]) -> [u32; 4]
     requires { n < 15 }
-    ensures { bytes_of result ≡ spec.eq_round aes inv_s_box words.now n (bytes_of t) }
+    ensures { bytes_of result ≡ spec.eq_round aes inv_s_box schedule.now.words n (bytes_of t) }
 {
     let first = RoundKeyNumber(n).first_word();
     let i = first.0;
     let mut u = [0u32; 4];
     for j in 0..4 {
-        u[j] = back_column(t, j) ^ words[i + j];
+        u[j] = back_column(t, j) ^ schedule.words[i + j];
     }
     u
 }
@@ -74,17 +72,17 @@ fn back_row(c: u32, k: usize) -> u32
 }
 
 // ADDROUNDKEY: the columns as an array, with round key n added.
-fn add_round_key(words: &[u32; 60], n: RoundKeyNumber, s: Columns) -> [u32; 4]
+fn add_round_key(schedule: &KeySchedule, n: RoundKeyNumber, s: Columns) -> [u32; 4]
     requires { n.0 < 15 }
-    ensures { bytes_of result ≡ add_round_key aes words.now n.0 (block_of s) }
+    ensures { bytes_of result ≡ add_round_key aes schedule.now.words n.0 (block_of s) }
 {
     let first = n.first_word();
     let i = first.0;
     [
-        s.0 ^ words[i],
-        s.1 ^ words[i + 1],
-        s.2 ^ words[i + 2],
-        s.3 ^ words[i + 3],
+        s.0 ^ schedule.words[i],
+        s.1 ^ schedule.words[i + 1],
+        s.2 ^ schedule.words[i + 2],
+        s.3 ^ schedule.words[i + 3],
     ]
 }
 

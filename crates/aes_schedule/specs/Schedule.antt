@@ -6,6 +6,7 @@ use Rattle.aes_expand.specs.Expansion.{key_expansion}
 use Rattle.aes_schedule.specs.declared.KeyAnswer.{KeyAnswer}
 use Rattle.aes_schedule.specs.declared.KeyAnswer.TheVariants.{Taken, KeyLength}
 use Rattle.aes_schedule.specs.declared.Expanded.{Expanded}
+use Rattle.aes_schedule.specs.declared.KeySchedule.{KeySchedule}
 use Rattle.aes_schedule.specs.declared.KeySize.{KeySize}
 
 -- 4 (Nr + 1) words, and zeros up to 60
@@ -29,6 +30,10 @@ schedule_of sub key =
 abbrev pub key_number : KeyAnswer → ℕ
 key_number Taken = 0
 key_number KeyLength = 1
+
+-- the schedule of no key
+abbrev pub no_schedule : KeySchedule
+no_schedule = record { words = replicate 60 0; rounds = 0 }
 
 -- the numbers of rounds that a key can give (table 3)
 abbrev pub round_count : ℕ → Bool

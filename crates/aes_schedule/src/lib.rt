@@ -3,7 +3,7 @@
 
 ghost use Rattle.std.specs.Prelude.{◌≡◌, ◌&&◌, eqb};
 ghost use Rattle.aes_sbox.specs.Sbox.{s_box};
-ghost use Rattle.aes_schedule.specs.Schedule.{schedule_of, key_number, round_count, first_word, key_size, answer_of};
+ghost use Rattle.aes_schedule.specs.Schedule.{schedule_of, key_number, round_count, first_word, key_size, answer_of, no_schedule};
 
 use aes_expand::expand_into;
 use aes_sbox::table;
@@ -76,30 +76,45 @@ impl KeySchedule {
 
     pub const ROUNDS_32: usize = 14;
 
+    // The schedule of no key.
+    pub fn none() -> KeySchedule
+        ensures { result ≡ no_schedule }
+    {
+        KeySchedule {
+            words: [0; 60],
+            rounds: 0,
+        }
+    }
+
     // The schedule of a key.
     pub fn new(key: &[u8]) -> Expanded
         ensures { result ≡ schedule_of s_box key.now }
     {
-        let mut words = [0u32; 60];
-        let rounds = schedule_into(key, &mut words);
-        Expanded {
-            answer: answer_of(rounds),
-            schedule: KeySchedule { words, rounds },
-        }
+        let mut schedule = KeySchedule::none();
+        let answer = schedule.expand(key);
+        Expanded { answer, schedule }
     }
-}
 
-// The words of the schedule of a key, put where the caller has room: as a result they would be copied to the stack a second time. The
-// answer is the number of rounds, 0 if the key is refused.
-pub fn schedule_into(key: &[u8], words: &mut [u32; 60]) -> usize
-    ensures { (result ≡ (schedule_of s_box key.now).schedule.rounds) × (words.new ≡ (schedule_of s_box key.now).schedule.words) }
-{
-    *words = [0u32; 60];
-    let size = key_size(key.len());
-    let end = RoundKeyNumber(size.rounds + 1).first_word();
-    let sbox = table();
-    expand_into(&sbox, key, size.words, end.0, words);
-    size.rounds
+    // Becomes the schedule of a key, or that of none if the key is refused. A caller that has room for a schedule has it made there: as a
+    // result it would be copied to the stack a second time.
+    pub fn expand(&mut self, key: &[u8]) -> KeyAnswer
+        ensures { (result ≡ (schedule_of s_box key.now).answer) × (self.new ≡ (schedule_of s_box key.now).schedule) }
+    {
+        let size = key_size(key.len());
+        let end = RoundKeyNumber(size.rounds + 1).first_word();
+        let sbox = table();
+        self.words = [0; 60];
+        expand_into(&sbox, key, size.words, end.0, &mut self.words);
+        self.rounds = size.rounds;
+        answer_of(size.rounds)
+    }
+
+    // Whether a key can have given this schedule, by its rounds.
+    pub fn is_usable(&self) -> bool
+        ensures { result ≡ round_count self.now.rounds }
+    {
+        is_round_count(self.rounds)
+    }
 }
 
 // The answer for a key of this length, by the rounds that it gives.
@@ -116,27 +131,23 @@ pub fn answer_of(rounds: usize) -> KeyAnswer
 fn key_size(length: usize) -> KeySize
     ensures { result ≡ key_size length }
 {
-    if length == 16 {
-        return KeySize {
+    match length {
+        16 => KeySize {
             words: KeySchedule::WORDS_16,
             rounds: KeySchedule::ROUNDS_16,
-        };
-    }
-    if length == 24 {
-        return KeySize {
+        },
+        24 => KeySize {
             words: KeySchedule::WORDS_24,
             rounds: KeySchedule::ROUNDS_24,
-        };
-    }
-    if length == 32 {
-        return KeySize {
+        },
+        32 => KeySize {
             words: KeySchedule::WORDS_32,
             rounds: KeySchedule::ROUNDS_32,
-        };
-    }
-    KeySize {
-        words: 0,
-        rounds: 0,
+        },
+        _ => KeySize {
+            words: 0,
+            rounds: 0,
+        },
     }
 }
 
@@ -144,24 +155,12 @@ fn key_size(length: usize) -> KeySize
 pub fn is_round_count(n: usize) -> bool
     ensures { result ≡ round_count n }
 {
-    if n == KeySchedule::ROUNDS_16 {
-        return true;
-    }
-    if n == KeySchedule::ROUNDS_24 {
-        return true;
-    }
-    n == KeySchedule::ROUNDS_32
+    n == KeySchedule::ROUNDS_16 || n == KeySchedule::ROUNDS_24 || n == KeySchedule::ROUNDS_32
 }
 
 // Whether a call may go on with the encryption key and the check key that it was given.
 pub fn both_taken(ekey: KeyAnswer, ckey: KeyAnswer) -> bool
     ensures { result ≡ eqb (key_number ekey) 0 && eqb (key_number ckey) 0 }
 {
-    let KeyAnswer::Taken = ekey else {
-        return false;
-    };
-    let KeyAnswer::Taken = ckey else {
-        return false;
-    };
-    true
+    matches!((ekey, ckey), (KeyAnswer::Taken, KeyAnswer::Taken))
 }

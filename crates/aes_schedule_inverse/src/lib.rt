@@ -2,32 +2,32 @@
 #![tactic(auto)]
 
 ghost use Rattle.std.specs.Prelude.{◌≡◌, ◌≤◌, length};
-ghost use Rattle.aes_spec.specs.Model.{mixed_back, inverse_words};
+ghost use Rattle.aes_spec.specs.Model.{mixed_back, inverse_schedule};
 
 use aes_mix::inv_mix_column;
-use aes_schedule::{RoundKeyNumber, is_round_count};
+use aes_schedule::{KeySchedule, RoundKeyNumber};
 
 // Replaces the forward schedule; that stays if no key gives so many rounds.
-pub fn invert(words: &mut [u32; 60], rounds: usize)
-    ensures { words.new ≡ inverse_words words.old rounds }
+pub fn invert(schedule: &mut KeySchedule)
+    ensures { schedule.new ≡ inverse_schedule schedule.old }
 {
-    if is_round_count(rounds) {
+    if schedule.is_usable() {
         let first = RoundKeyNumber(1).first_word();
-        let end = RoundKeyNumber(rounds).first_word();
-        mix_back(words, first.0, end.0);
+        let end = RoundKeyNumber(schedule.rounds).first_word();
+        mix_back(&mut schedule.words, first.0, end.0);
     }
 }
 
 // The same into memory of the caller: as a result it would be copied to the stack a second time.
-pub fn inverse_words(words: &[u32; 60], rounds: usize, back: &mut [u32; 60])
-    ensures { back.new ≡ inverse_words words.now rounds }
+pub fn inverse_into(schedule: &KeySchedule, back: &mut KeySchedule)
+    ensures { back.new ≡ inverse_schedule schedule.now }
 {
-    *back = *words;
-    invert(back, rounds);
+    *back = *schedule;
+    invert(back);
 }
 
 // The words of a slice from a place up to another mixed back.
-fn mix_back(words: &mut [u32], from: usize, end: usize)
+pub fn mix_back(words: &mut [u32], from: usize, end: usize)
     requires { end ≤ length words.old }
     ensures { words.new ≡ mixed_back from end words.old }
 {

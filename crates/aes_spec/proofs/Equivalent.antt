@@ -11,13 +11,13 @@ use borrow.Author.Tests.{lt-ltb, le-ltb, le-leb, lt-leb}
 use lib.Dec.{leb, ltb}
 use lib.ListN.{length, get_or, set, replicate, length-set}
 use lib.Seq.{get_or-set_same, get_or-set_other}
-use Rattle.octets.specs.Octets.{xor, tabulate, Octets}
-use Rattle.octets.specs.Words.{word, byte}
+use Rattle.octets.specs.Octets.{xor, Octets}
+use Rattle.octets.specs.Words.{byte}
 use Rattle.octets.specs.Blocks.{BlockCipher}
 use Rattle.octets.proofs.Xor.{lt_or_le}
 use Rattle.octets.proofs.Fill.{length_tabulate, get_d_tabulate, is_tabulate}
 use Rattle.octets.proofs.Words.{byte_lt, byte0_word, byte1_word, byte2_word, byte3_word}
-use Rattle.aes_mix.specs.Mixing.{row, inv_mix_row, column, inv_mix_column}
+use Rattle.aes_mix.specs.Mixing.{inv_mix_row, column, inv_mix_column}
 use Rattle.aes_mix.proofs.Mix.{row_lt}
 use Rattle.aes_mix.proofs.Spin.{row_xor}
 use Rattle.aes_sbox.specs.Sbox.{inv_s_box}

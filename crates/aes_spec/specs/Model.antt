@@ -7,6 +7,7 @@ use Rattle.octets.specs.Blocks.{BlockCipher}
 use Rattle.aes_sbox.specs.Sbox.{s_box, inv_s_box}
 use Rattle.aes_mix.specs.Mixing.{inv_mix_column}
 use Rattle.aes_schedule.specs.Schedule.{round_count}
+use Rattle.aes_schedule.specs.declared.KeySchedule.{KeySchedule}
 use Rattle.aes_spec.specs.State.{Shape, aes, sub_bytes, inv_shift_rows, inv_mix_columns, add_round_key}
 use Rattle.aes_spec.specs.Cipher.{encrypt_block}
 
@@ -24,6 +25,10 @@ equivalent_words z w nr = mixed_back z.columns (z.columns * nr) w
 -- that schedule for AES, if the number of rounds is one that a key gives; otherwise the schedule as it is
 unfoldable pub inverse_words : List ℕ → ℕ → List ℕ
 inverse_words w nr = cond (round_count nr) (equivalent_words aes w nr) w
+
+-- the same of a schedule with its rounds
+abbrev pub inverse_schedule : KeySchedule → KeySchedule
+inverse_schedule s = record { words = inverse_words s.words s.rounds; rounds = s.rounds }
 
 -- round n of algorithm 4; INVSUBBYTES and INVSHIFTROWS may change places, and stand as INVCIPHER has them
 unfoldable pub eq_round : Shape → (ℕ → ℕ) → List ℕ → ℕ → List ℕ → List ℕ

@@ -28,7 +28,7 @@ pub fn seal(key: &[u8], nonce: &[u8], ad: &[u8], message: &[u8], output: &mut [u
     let CcmAnswer::CcmDone = answer else {
         return answer;
     };
-    seal_into(&words, schedule.rounds, nonce, ad, message, output);
+    seal_into(&schedule, nonce, ad, message, output);
     answer
 }
 
@@ -46,53 +46,51 @@ pub fn open(key: &[u8], nonce: &[u8], ad: &[u8], sealed: &[u8], output: &mut [u8
     let CcmAnswer::CcmDone = answer else {
         return answer;
     };
-    open_into(&words, schedule.rounds, nonce, ad, sealed, output)
+    open_into(&schedule, nonce, ad, sealed, output)
 }
 
 // Nothing is refused from here on.
 fn seal_into(
-    words: &[u32; 60],
-    rounds: usize,
+    schedule: &KeySchedule,
     nonce: &[u8],
     ad: &[u8],
     message: &[u8],
     output: &mut [u8],
 )
     requires { (length nonce.now ≡ 13) × (length ad.now ≤ 64) × (length message.now + 8 ≤ length output.old) }
-    ensures { output.new ≡ model.sealed_over (standard words.now rounds) nonce.now ad.now message.now output.old }
+    ensures { output.new ≡ model.sealed_over (standard schedule.now.words schedule.now.rounds) nonce.now ad.now message.now output.old }
 {
     let n = thirteen(nonce);
     let ctr = flagged(1, n, 0);
     let tag = xor(
-        mac(words, rounds, n, ad, message),
-        encrypt_block(words, rounds, ctr),
+        mac(schedule, n, ad, message),
+        encrypt_block(schedule, ctr),
     );
-    stream(words, rounds, ctr, message, output);
+    stream(schedule, ctr, message, output);
     copy(&tag[0..8], output, message.len());
 }
 
 // Nothing is written before the tag is known to be right: the code passes over the ciphertext twice and keeps the message nowhere else.
 fn open_into(
-    words: &[u32; 60],
-    rounds: usize,
+    schedule: &KeySchedule,
     nonce: &[u8],
     ad: &[u8],
     sealed: &[u8],
     output: &mut [u8],
 ) -> CcmAnswer
     requires { (length nonce.now ≡ 13) × (length ad.now ≤ 64) × (8 ≤ length sealed.now) × (length sealed.now ≤ length output.old + 8) }
-    ensures answer { result ≡ model.verdict (standard words.now rounds) nonce.now ad.now sealed.now }
-    ensures written { output.new ≡ model.opened_over (standard words.now rounds) nonce.now ad.now sealed.now output.old }
+    ensures answer { result ≡ model.verdict (standard schedule.now.words schedule.now.rounds) nonce.now ad.now sealed.now }
+    ensures written { output.new ≡ model.opened_over (standard schedule.now.words schedule.now.rounds) nonce.now ad.now sealed.now output.old }
 {
     let n = thirteen(nonce);
     let len = sealed.len() - 8;
-    let made = opened_mac(words, rounds, n, ad, &sealed[0..len]);
+    let made = opened_mac(schedule, n, ad, &sealed[0..len]);
     let ctr = flagged(1, n, 0);
-    let found = leading_sum(sealed, len, encrypt_block(words, rounds, ctr));
+    let found = leading_sum(sealed, len, encrypt_block(schedule, ctr));
     if !same_tag(made, found) {
         return CcmAnswer::WrongTag;
     }
-    stream(words, rounds, ctr, &sealed[0..len], output);
+    stream(schedule, ctr, &sealed[0..len], output);
     CcmAnswer::CcmDone
 }
 

@@ -5,23 +5,24 @@ ghost use Rattle.aes_spec.specs.Cipher.{standard};
 ghost use Rattle.ccm_spec.specs.Ccm.{half, first_flags};
 ghost use Rattle.ccm_chain.specs.Model as model;
 
+use aes_schedule::KeySchedule;
 use ccm_stream::flagged;
 use cmac_chain::chained;
 use octets_slice::copy;
 
 // The chain after B0 and the associated data, of a message of this length.
-pub fn begun(words: &[u32; 60], rounds: usize, nonce: [u8; 13], ad: &[u8], len: usize) -> [u8; 16]
+pub fn begun(schedule: &KeySchedule, nonce: [u8; 13], ad: &[u8], len: usize) -> [u8; 16]
     requires { length ad.now ≤ 64 }
-    ensures { result ≡ model.begun (standard words.now rounds) nonce ad.now len }
+    ensures { result ≡ model.begun (standard schedule.now.words schedule.now.rounds) nonce ad.now len }
 {
     let first = flagged(first_flags(ad.len()), nonce, len);
-    let start = chained(words, rounds, [0u8; 16], &first);
+    let start = chained(schedule, [0u8; 16], &first);
     if ad.len() == 0 {
         return start;
     }
     let data = encoded(ad);
     let end = (ad.len() + 17) / 16 * 16;
-    chained(words, rounds, start, &data[0..end])
+    chained(schedule, start, &data[0..end])
 }
 
 // The flags of B0: 64 where there is associated data, 8 (t - 2) / 2 and q - 1.

@@ -13,66 +13,65 @@ ghost use Rattle.ccm_chain.specs.Model.{mac_over, opened_mac_over};
 
 use crate::head::begun;
 use aes_rounds::{absorb, encrypt_block};
+use aes_schedule::KeySchedule;
 use ccm_stream::{flagged, leading_sum, numbered, piece_count};
 use cmac_chain::chained;
 use cmac_subkeys::piece_filled;
 
 // Of a message; zeros if there are more than 64 bytes of associated data, which no call here takes.
-pub fn mac(words: &[u32; 60], rounds: usize, nonce: [u8; 13], ad: &[u8], message: &[u8]) -> [u8; 16]
-    ensures { result ≡ mac_over (standard words.now rounds) nonce ad.now message.now }
+pub fn mac(schedule: &KeySchedule, nonce: [u8; 13], ad: &[u8], message: &[u8]) -> [u8; 16]
+    ensures { result ≡ mac_over (standard schedule.now.words schedule.now.rounds) nonce ad.now message.now }
 {
     if ad.len() > 64 {
         return [0u8; 16];
     }
-    let start = begun(words, rounds, nonce, ad, message.len());
-    through(words, rounds, start, message)
+    let start = begun(schedule, nonce, ad, message.len());
+    through(schedule, start, message)
 }
 
 // Of what a ciphertext opens to, which is kept nowhere.
 pub fn opened_mac(
-    words: &[u32; 60],
-    rounds: usize,
+    schedule: &KeySchedule,
     nonce: [u8; 13],
     ad: &[u8],
     input: &[u8],
 ) -> [u8; 16]
-    ensures { result ≡ opened_mac_over (standard words.now rounds) nonce ad.now input.now }
+    ensures { result ≡ opened_mac_over (standard schedule.now.words schedule.now.rounds) nonce ad.now input.now }
 {
     if ad.len() > 64 {
         return [0u8; 16];
     }
-    let start = begun(words, rounds, nonce, ad, input.len());
-    through_opened(words, rounds, flagged(1, nonce, 0), start, input)
+    let start = begun(schedule, nonce, ad, input.len());
+    through_opened(schedule, flagged(1, nonce, 0), start, input)
 }
 
 // The chain over a message, with zeros up to whole pieces.
-fn through(words: &[u32; 60], rounds: usize, chain: [u8; 16], message: &[u8]) -> [u8; 16]
-    ensures { result ≡ cmac.chained (standard words.now rounds) chain (piece_count 16 message.now) (whole message.now) }
+fn through(schedule: &KeySchedule, chain: [u8; 16], message: &[u8]) -> [u8; 16]
+    ensures { result ≡ cmac.chained (standard schedule.now.words schedule.now.rounds) chain (piece_count 16 message.now) (whole message.now) }
 {
-    let value = chained(words, rounds, chain, message);
+    let value = chained(schedule, chain, message);
     let at = message.len() / 16 * 16;
     if at == message.len() {
         return value;
     }
     let rest = piece_filled([0u8; 16], 0, &message[at..]);
-    chained(words, rounds, value, &rest)
+    chained(schedule, value, &rest)
 }
 
 // The chain over what a ciphertext opens to, piece by piece.
 fn through_opened(
-    words: &[u32; 60],
-    rounds: usize,
+    schedule: &KeySchedule,
     ctr: [u8; 16],
     chain: [u8; 16],
     input: &[u8],
 ) -> [u8; 16]
-    ensures { result ≡ cmac.chained (standard words.now rounds) chain (piece_count 16 input.now) (pieces (standard words.now rounds) ctr input.now (piece_count 16 input.now)) }
+    ensures { result ≡ cmac.chained (standard schedule.now.words schedule.now.rounds) chain (piece_count 16 input.now) (pieces (standard schedule.now.words schedule.now.rounds) ctr input.now (piece_count 16 input.now)) }
 {
     let mut value = chain;
     for i in 0..piece_count(input.len()) {
-        let made = encrypt_block(words, rounds, numbered(ctr, i + 1));
+        let made = encrypt_block(schedule, numbered(ctr, i + 1));
         let plain = leading_sum(input, i * 16, made);
-        absorb(words, rounds, &mut value, &plain, 0);
+        absorb(schedule, &mut value, &plain, 0);
     }
     value
 }

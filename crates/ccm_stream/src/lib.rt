@@ -12,6 +12,7 @@ ghost use Rattle.ccm_stream.specs.Model.{numbered_as, streamed_over, streamed_in
 
 use crate::last::{put_leading, short_sum};
 use aes_rounds::encrypt_block;
+use aes_schedule::KeySchedule;
 use octets_block::{load, xor};
 use octets_slice::{copy, has_room};
 
@@ -47,21 +48,21 @@ pub fn leading_sum(s: &[u8], at: usize, block: [u8; 16]) -> [u8; 16]
 
 // The input, added to S1, S2 and so on, goes into the first bytes of the output; the output stays as it is if it is shorter than the input.
 // The block is the counter block of number 0.
-pub fn stream(words: &[u32; 60], rounds: usize, ctr: [u8; 16], input: &[u8], output: &mut [u8])
-    ensures { output.new ≡ streamed_over (standard words.now rounds) ctr input.now output.old }
+pub fn stream(schedule: &KeySchedule, ctr: [u8; 16], input: &[u8], output: &mut [u8])
+    ensures { output.new ≡ streamed_over (standard schedule.now.words schedule.now.rounds) ctr input.now output.old }
 {
     if output.len() < input.len() {
         return;
     }
-    stream_into(words, rounds, ctr, input, &mut output[0..input.len()]);
+    stream_into(schedule, ctr, input, &mut output[0..input.len()]);
 }
 
-fn stream_into(words: &[u32; 60], rounds: usize, ctr: [u8; 16], input: &[u8], output: &mut [u8])
+fn stream_into(schedule: &KeySchedule, ctr: [u8; 16], input: &[u8], output: &mut [u8])
     requires { length output.old ≡ length input.now }
-    ensures { output.new ≡ streamed_into (standard words.now rounds) ctr input.now }
+    ensures { output.new ≡ streamed_into (standard schedule.now.words schedule.now.rounds) ctr input.now }
 {
     for i in 0..piece_count(input.len()) {
-        let made = encrypt_block(words, rounds, numbered(ctr, i + 1));
+        let made = encrypt_block(schedule, numbered(ctr, i + 1));
         put_leading(output, i * 16, leading_sum(input, i * 16, made));
     }
 }

@@ -42,7 +42,7 @@ pub fn check(key: &[u8], message: &[u8]) -> Checked
     let answer = made.answer;
     let schedule = made.schedule;
     let words = schedule.words;
-    let mac = check_with(&words, schedule.rounds, message);
+    let mac = check_with(&schedule, message);
     Checked { answer, check: mac }
 }
 
@@ -75,24 +75,24 @@ pub fn close(record: Record) -> [u8; 16]
 {
     let run = run_of(record);
     let rounds = record.rounds;
-    close_run(&record.words, rounds, run)
+    close_run(&record.schedule, run)
 }
 
 // The check under a lent schedule, for callers that make many checks.
-pub fn check_with(words: &[u32; 60], rounds: usize, message: &[u8]) -> [u8; 16]
-    ensures { result ≡ spec.cmac (standard words.now rounds) message.now }
+pub fn check_with(schedule: &KeySchedule, message: &[u8]) -> [u8; 16]
+    ensures { result ≡ spec.cmac (standard schedule.now.words schedule.now.rounds) message.now }
 {
-    let run = Run::new().fed(words, rounds, message);
-    close_run(words, rounds, run)
+    let run = Run::new().fed(schedule, message);
+    close_run(schedule, run)
 }
 
 // The check of a run, with the subkeys made for it.
-fn close_run(words: &[u32; 60], rounds: usize, run: Run) -> [u8; 16]
-    ensures { result ≡ running.closed (standard words.now rounds) run }
+fn close_run(schedule: &KeySchedule, run: Run) -> [u8; 16]
+    ensures { result ≡ running.closed (standard schedule.now.words schedule.now.rounds) run }
 {
-    let key1 = cmac_subkeys::key1(words, rounds);
+    let key1 = cmac_subkeys::key1(schedule);
     let key2 = cmac_subkeys::key2(key1);
-    run.closed(words, rounds, &key1, &key2)
+    run.closed(schedule, &key1, &key2)
 }
 
 fn run_of(record: Record) -> Run
@@ -113,8 +113,7 @@ fn record_of(words: [u32; 60], rounds: usize, run: Run) -> Record
     let chain = run.chain;
     let held = run.held;
     Record {
-        words,
-        rounds,
+        schedule,
         chain,
         held,
         count: run.count,

@@ -6,6 +6,7 @@ ghost use Rattle.aes_spec.specs.Cipher.{standard};
 ghost use Rattle.cmac_run.specs.Running as running;
 
 use aes_rounds::encrypt_block;
+use aes_schedule::KeySchedule;
 use cmac_chain::chained;
 use cmac_subkeys::{last, piece_filled};
 use octets_block::xor;
@@ -30,8 +31,8 @@ impl Run {
     }
 
     // A full piece goes into the chain only when another byte comes.
-    pub fn fed(self, words: &[u32; 60], rounds: usize, part: &[u8]) -> Run
-        ensures { result ≡ running.fed (standard words.now rounds) self part.now }
+    pub fn fed(self, schedule: &KeySchedule, part: &[u8]) -> Run
+        ensures { result ≡ running.fed (standard schedule.now.words schedule.now.rounds) self part.now }
     {
         let chain = self.chain;
         let held = self.held;
@@ -44,34 +45,33 @@ impl Run {
                 count: 16 - room + part.len(),
             };
         }
-        let next = encrypt_block(words, rounds, xor(chain, piece));
-        run_from(words, rounds, next, &part[room..])
+        let next = encrypt_block(schedule, xor(chain, piece));
+        run_from(schedule, next, &part[room..])
     }
 
     // The check of everything fed, with the subkeys lent: a caller that makes many checks makes the subkeys once.
     pub fn closed(
         self,
-        words: &[u32; 60],
-        rounds: usize,
+        schedule: &KeySchedule,
         key1: &[u8; 16],
         key2: &[u8; 16],
     ) -> [u8; 16]
-        ensures { result ≡ running.closed_by (standard words.now rounds) key1.now key2.now self }
+        ensures { result ≡ running.closed_by (standard schedule.now.words schedule.now.rounds) key1.now key2.now self }
     {
         let chain = self.chain;
         let held = self.held;
         let end = last(key1, key2, held, self.count);
-        encrypt_block(words, rounds, xor(chain, end))
+        encrypt_block(schedule, xor(chain, end))
     }
 }
 
 // From a value of the chain, with nothing held.
-fn run_from(words: &[u32; 60], rounds: usize, chain: [u8; 16], part: &[u8]) -> Run
-    ensures { result ≡ running.run_from (standard words.now rounds) chain part.now }
+fn run_from(schedule: &KeySchedule, chain: [u8; 16], part: &[u8]) -> Run
+    ensures { result ≡ running.run_from (standard schedule.now.words schedule.now.rounds) chain part.now }
 {
     let n = before_last(part.len());
     let at = n * 16;
-    let after = chained(words, rounds, chain, &part[0..at]);
+    let after = chained(schedule, chain, &part[0..at]);
     let rest = &part[at..];
     let held = piece_filled([0u8; 16], 0, rest);
     Run {

@@ -10,6 +10,7 @@ ghost use Rattle.cmac_spec.specs.Cmac as spec;
 
 use crate::doubling::doubled;
 use aes_rounds::encrypt_block;
+use aes_schedule::KeySchedule;
 use octets_block::xor;
 
 // The bytes held, then those of the part, as many as 16 bytes have room for, then zeros.
@@ -24,10 +25,10 @@ pub fn piece_filled(held: [u8; 16], count: usize, part: &[u8]) -> [u8; 16]
 }
 
 // K1.
-pub fn key1(words: &[u32; 60], rounds: usize) -> [u8; 16]
-    ensures { result ≡ spec.key1 (standard words.now rounds) }
+pub fn key1(schedule: &KeySchedule) -> [u8; 16]
+    ensures { result ≡ spec.key1 (standard schedule.now.words schedule.now.rounds) }
 {
-    doubled(encrypt_block(words, rounds, [0u8; 16]))
+    doubled(encrypt_block(schedule, [0u8; 16]))
 }
 
 // K2, from K1.

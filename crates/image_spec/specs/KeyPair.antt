@@ -19,7 +19,3 @@ both_taken ekey ckey = eqb (key_number ekey.answer) 0 && eqb (key_number ckey.an
 -- AES under the two schedules; they are usable if keys can have given them
 abbrev pub keys_under : (ewords cwords : List ℕ) → Rounds → Keys
 keys_under ewords cwords n = record { enc = standard ewords n.enc; mac = cmac (standard cwords n.chk); usable = usable n }
-
--- the schedule of no key
-abbrev pub no_schedule : KeySchedule
-no_schedule = record { words = replicate 60 0; rounds = 0 }

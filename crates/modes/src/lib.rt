@@ -45,27 +45,26 @@ pub fn apply(
         };
     };
     let start = load(iv, 0);
-    let next = under_schedule(&words, schedule.rounds, operation, start, input, output);
+    let next = under_schedule(&schedule, operation, start, input, output);
     Applied { answer, next }
 }
 
 // Runs an operation under a schedule, mixed back first if it uses the inverse cipher; the answer is what the next piece is chained to.
 fn under_schedule(
-    words: &[u32; 60],
-    rounds: usize,
+    schedule: &KeySchedule,
     operation: Operation,
     iv: [u8; 16],
     input: &[u8],
     output: &mut [u8],
 ) -> [u8; 16]
-    ensures { (result, output.new) ≡ run_over (equivalent_cipher words.now (inverse_words words.now rounds) rounds) operation iv input.now output.old }
+    ensures { (result, output.new) ≡ run_over (equivalent_cipher words.now (inverse_words schedule.now.words schedule.now.rounds) rounds) operation iv input.now output.old }
 {
     if inverts(operation) {
         let mut inverse = [0u32; 60];
-        inverse_words(words, rounds, &mut inverse);
+        inverse_words(schedule, &mut inverse);
         return modes_run::run(&inverse, rounds, operation, iv, input, output);
     }
-    modes_run::run(words, rounds, operation, iv, input, output)
+    modes_run::run(schedule, operation, iv, input, output)
 }
 
 // Whether an operation uses the inverse cipher: decryption in CFB does not, nor does OFB.

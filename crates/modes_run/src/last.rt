@@ -7,22 +7,22 @@ ghost use Rattle.modes_spec.specs.Modes.{machine};
 ghost use Rattle.modes_spec.specs.declared.Operation.TheVariants.{Ofb};
 
 use aes_rounds::encrypt_block;
+use aes_schedule::KeySchedule;
 
 // What is left of an input after its whole pieces, into as much of the output; if nothing is left, the cipher makes nothing.
 pub fn last_piece(
-    words: &[u32; 60],
-    rounds: usize,
+    schedule: &KeySchedule,
     chain: [u8; 16],
     input: &[u8],
     output: &mut [u8],
 ) -> [u8; 16]
     requires { (length output.old ≡ length input.now) × (length input.now ≤ 16) }
-    ensures { (result, output.new) ≡ ran_through 16 (machine (one_way words.now rounds) Ofb) chain input.now output.old }
+    ensures { (result, output.new) ≡ ran_through 16 (machine (one_way schedule.now.words schedule.now.rounds) Ofb) chain input.now output.old }
 {
     if input.len() == 0 {
         return chain;
     }
-    let output_block = encrypt_block(words, rounds, chain);
+    let output_block = encrypt_block(schedule, chain);
     add(input, output_block, output);
     output_block
 }

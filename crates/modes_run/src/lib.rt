@@ -9,6 +9,7 @@ ghost use Rattle.aes_spec.specs.Model.{one_way};
 ghost use Rattle.modes_run.specs.Model.{run_over};
 
 use crate::last::last_piece;
+use aes_schedule::KeySchedule;
 use modes_answer::any_length;
 use modes_spec::Operation;
 use modes_whole::whole_pieces;
@@ -17,21 +18,20 @@ use octets_slice::smaller;
 // The pieces that input and output have in common: whole ones, and in OFB a short last one too.
 // The answer is what a piece after them is chained to.
 pub fn run(
-    words: &[u32; 60],
-    rounds: usize,
+    schedule: &KeySchedule,
     operation: Operation,
     iv: [u8; 16],
     input: &[u8],
     output: &mut [u8],
 ) -> [u8; 16]
-    ensures { (result, output.new) ≡ run_over (one_way words.now rounds) operation iv input.now output.old }
+    ensures { (result, output.new) ≡ run_over (one_way schedule.now.words schedule.now.rounds) operation iv input.now output.old }
 {
     let end = smaller(input.len(), output.len());
-    let chain = whole_pieces(words, rounds, operation, iv, input, output);
+    let chain = whole_pieces(schedule, operation, iv, input, output);
     if any_length(operation) {
         let n = end / 16;
         let at = n * 16;
-        return last_piece(words, rounds, chain, &input[at..end], &mut output[at..end]);
+        return last_piece(schedule, chain, &input[at..end], &mut output[at..end]);
     }
     chain
 }

@@ -9,6 +9,7 @@ ghost use Rattle.modes_step.specs.Model.{step_of};
 
 use aes_rounds::encrypt_block;
 use aes_rounds_inverse::decrypt_block;
+use aes_schedule::KeySchedule;
 use modes_spec::Operation;
 use octets_block::xor;
 
@@ -21,36 +22,35 @@ pub struct Stepped {
 
 // SP 800-38A's equations, an operation each.
 pub fn step(
-    words: &[u32; 60],
-    rounds: usize,
+    schedule: &KeySchedule,
     operation: Operation,
     chain: [u8; 16],
     piece: [u8; 16],
 ) -> Stepped
-    ensures { result ≡ step_of (machine (one_way words.now rounds) operation) chain piece }
+    ensures { result ≡ step_of (machine (one_way schedule.now.words schedule.now.rounds) operation) chain piece }
 {
     match operation {
         Operation::EcbEncrypt => {
-            let out = encrypt_block(words, rounds, piece);
+            let out = encrypt_block(schedule, piece);
             Stepped { out, next: chain }
         }
         Operation::EcbDecrypt => {
-            let out = decrypt_block(words, rounds, piece);
+            let out = decrypt_block(schedule, piece);
             Stepped { out, next: chain }
         }
         Operation::CbcEncrypt => {
-            let block = encrypt_block(words, rounds, xor(piece, chain));
+            let block = encrypt_block(schedule, xor(piece, chain));
             Stepped {
                 out: block,
                 next: block,
             }
         }
         Operation::CbcDecrypt => {
-            let out = xor(decrypt_block(words, rounds, piece), chain);
+            let out = xor(decrypt_block(schedule, piece), chain);
             Stepped { out, next: piece }
         }
         Operation::CfbEncrypt => {
-            let key_stream = encrypt_block(words, rounds, chain);
+            let key_stream = encrypt_block(schedule, chain);
             let segment = xor(piece, key_stream);
             Stepped {
                 out: segment,
@@ -58,11 +58,11 @@ pub fn step(
             }
         }
         Operation::CfbDecrypt => {
-            let out = xor(piece, encrypt_block(words, rounds, chain));
+            let out = xor(piece, encrypt_block(schedule, chain));
             Stepped { out, next: piece }
         }
         Operation::Ofb => {
-            let output_block = encrypt_block(words, rounds, chain);
+            let output_block = encrypt_block(schedule, chain);
             let out = xor(piece, output_block);
             Stepped {
                 out,

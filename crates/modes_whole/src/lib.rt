@@ -10,6 +10,7 @@ ghost use Rattle.modes_spec.specs.Modes.{machine};
 ghost use Rattle.modes_whole.specs.Model.{ran_whole};
 
 use aes_rounds_inverse::decrypt_block;
+use aes_schedule::KeySchedule;
 use modes_spec::Operation;
 use modes_step::step;
 use octets_block::{load, store, xor};
@@ -17,23 +18,22 @@ use octets_slice::smaller;
 
 // The whole pieces that input and output both have. The answer is what a piece after them is chained to.
 pub fn whole_pieces(
-    words: &[u32; 60],
-    rounds: usize,
+    schedule: &KeySchedule,
     operation: Operation,
     iv: [u8; 16],
     input: &[u8],
     output: &mut [u8],
 ) -> [u8; 16]
-    ensures { (result, output.new) ≡ ran_whole (machine (one_way words.now rounds) operation) iv input.now output.old }
+    ensures { (result, output.new) ≡ ran_whole (machine (one_way schedule.now.words schedule.now.rounds) operation) iv input.now output.old }
 {
     let both = smaller(input.len(), output.len());
     let n = both / 16;
     if let Operation::CbcDecrypt = operation {
-        return opened(words, rounds, iv, n, input, output);
+        return opened(schedule, iv, n, input, output);
     }
     let mut chain = iv;
     for i in 0..n {
-        let s = step(words, rounds, operation, chain, load(input, i * 16));
+        let s = step(schedule, operation, chain, load(input, i * 16));
         let out = s.out;
         let next = s.next;
         store(output, i * 16, out);
@@ -44,15 +44,14 @@ pub fn whole_pieces(
 
 // Pieces decrypted in CBC: what a piece is chained to is the piece before it, as it came.
 fn opened(
-    words: &[u32; 60],
-    rounds: usize,
+    schedule: &KeySchedule,
     iv: [u8; 16],
     n: usize,
     input: &[u8],
     output: &mut [u8],
 ) -> [u8; 16]
     requires { (n * 16 ≤ length input.now) × (n * 16 ≤ length output.old) }
-    ensures { (result, output.new) ≡ ran 16 (machine (one_way words.now rounds) CbcDecrypt) iv n input.now output.old }
+    ensures { (result, output.new) ≡ ran 16 (machine (one_way schedule.now.words schedule.now.rounds) CbcDecrypt) iv n input.now output.old }
 {
     let mut chain = iv;
     for i in 0..n {
@@ -60,7 +59,7 @@ fn opened(
         store(
             output,
             i * 16,
-            xor(decrypt_block(words, rounds, piece), chain),
+            xor(decrypt_block(schedule, piece), chain),
         );
         chain = piece;
     }

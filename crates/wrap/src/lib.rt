@@ -29,7 +29,7 @@ pub fn wrap(key: &[u8], data: &[u8], output: &mut [u8]) -> WrapAnswer
     let WrapAnswer::WrapDone = answer else {
         return answer;
     };
-    wrap_into(&words, schedule.rounds, data, output);
+    wrap_into(&schedule, data, output);
     answer
 }
 
@@ -48,28 +48,28 @@ pub fn unwrap(key: &[u8], data: &[u8], output: &mut [u8]) -> WrapAnswer
         return answer;
     };
     invert(&mut words, schedule.rounds);
-    unwrap_into(&words, schedule.rounds, data, output)
+    unwrap_into(&schedule, data, output)
 }
 
 // Nothing is refused from here on, so the registers are in the output itself.
-fn wrap_into(words: &[u32; 60], rounds: usize, given: &[u8], output: &mut [u8])
+fn wrap_into(schedule: &KeySchedule, given: &[u8], output: &mut [u8])
     requires { (16 ≤ length given.now) × (length given.now ≤ 64) × (length given.now % 8 ≡ 0) × (length given.now + 8 ≤ length output.old) }
-    ensures { output.new ≡ over (wrapped (standard words.now rounds) given.now) output.old }
+    ensures { output.new ≡ over (wrapped (standard schedule.now.words schedule.now.rounds) given.now) output.old }
 {
     let first = [0xa6u8; 8];
     copy(&first, output, 0);
     copy(given, output, 8);
     let len = given.len() + 8;
-    passes(words, rounds, &mut output[0..len]);
+    passes(schedule, &mut output[0..len]);
 }
 
 // Works in memory of its own: nothing of a wrapped key whose check is wrong reaches the output.
-fn unwrap_into(words: &[u32; 60], rounds: usize, given: &[u8], output: &mut [u8]) -> WrapAnswer
+fn unwrap_into(schedule: &KeySchedule, given: &[u8], output: &mut [u8]) -> WrapAnswer
     requires { (24 ≤ length given.now) × (length given.now ≤ 72) × (length given.now % 8 ≡ 0) × (length given.now ≤ length output.old + 8) }
-    ensures answer { result ≡ spec.opening (one_way words.now rounds) given.now }
-    ensures written { output.new ≡ opened_over (one_way words.now rounds) given.now output.old }
+    ensures answer { result ≡ spec.opening (one_way schedule.now.words schedule.now.rounds) given.now }
+    ensures written { output.new ≡ opened_over (one_way schedule.now.words schedule.now.rounds) given.now output.old }
 {
-    let w = opened(words, rounds, given);
+    let w = opened(schedule, given);
     if !is_initial(&w) {
         return WrapAnswer::WrongInitial;
     }
@@ -78,13 +78,13 @@ fn unwrap_into(words: &[u32; 60], rounds: usize, given: &[u8], output: &mut [u8]
 }
 
 // The registers at the end, then zeros.
-fn opened(words: &[u32; 60], rounds: usize, given: &[u8]) -> [u8; 72]
+fn opened(schedule: &KeySchedule, given: &[u8]) -> [u8; 72]
     requires { (24 ≤ length given.now) × (length given.now ≤ 72) × (length given.now % 8 ≡ 0) }
-    ensures registers { result ≡ pad_to 72 (unwrapped (one_way words.now rounds) given.now) }
-    ensures size { length (unwrapped (one_way words.now rounds) given.now) ≡ length given.now }
+    ensures registers { result ≡ pad_to 72 (unwrapped (one_way schedule.now.words schedule.now.rounds) given.now) }
+    ensures size { length (unwrapped (one_way schedule.now.words schedule.now.rounds) given.now) ≡ length given.now }
 {
     let mut w = [0u8; 72];
     copy(given, &mut w, 0);
-    unpasses(words, rounds, &mut w[0..given.len()]);
+    unpasses(schedule, &mut w[0..given.len()]);
     w
 }

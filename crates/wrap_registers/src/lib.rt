@@ -12,45 +12,46 @@ ghost use Rattle.wrap_registers.specs.Model.{passed_over, unpassed_over};
 use crate::halves::{counter_added, pair, put_back};
 use aes_rounds::encrypt_block;
 use aes_rounds_inverse::decrypt_block;
+use aes_schedule::KeySchedule;
 use wrap_answer::wrapped_size_fits;
 
 // For j = 0 to 5. Registers of a size outside the rule stay as they are.
-pub fn passes(words: &[u32; 60], rounds: usize, w: &mut [u8])
-    ensures { w.new ≡ passed_over (standard words.now rounds) w.old }
+pub fn passes(schedule: &KeySchedule, w: &mut [u8])
+    ensures { w.new ≡ passed_over (standard schedule.now.words schedule.now.rounds) w.old }
 {
     if !wrapped_size_fits(w.len()) {
         return;
     }
     let n = w.len() / 8 - 1;
     for j in 0..6 {
-        pass(words, rounds, n, j, w);
+        pass(schedule, n, j, w);
     }
 }
 
 // For i = 1 to n, with t = n j + i.
-fn pass(words: &[u32; 60], rounds: usize, n: usize, j: usize, w: &mut [u8])
+fn pass(schedule: &KeySchedule, n: usize, j: usize, w: &mut [u8])
     requires { (length w.old ≡ 8 * n + 8) × (n ≤ 8) × (j < 6) }
-    ensures { w.new ≡ spec.pass (standard words.now rounds) n j n w.old }
+    ensures { w.new ≡ spec.pass (standard schedule.now.words schedule.now.rounds) n j n w.old }
 {
     for m in 0..n {
         let i = m + 1;
-        step(words, rounds, n * j + i, i, w);
+        step(schedule, n * j + i, i, w);
     }
 }
 
 // B = AES(K, A | R[i]), then A = MSB(64, B) ^ t and R[i] = LSB(64, B).
-fn step(words: &[u32; 60], rounds: usize, t: usize, i: usize, w: &mut [u8])
+fn step(schedule: &KeySchedule, t: usize, i: usize, w: &mut [u8])
     requires { (1 ≤ i) × (8 * i + 8 ≤ length w.old) × (t < 256) }
-    ensures { w.new ≡ spec.step (standard words.now rounds) t i w.old }
+    ensures { w.new ≡ spec.step (standard schedule.now.words schedule.now.rounds) t i w.old }
 {
     let given = pair(w, i);
-    let made = encrypt_block(words, rounds, given);
+    let made = encrypt_block(schedule, given);
     put_back(w, i, counter_added(made, t));
 }
 
 // For j = 5 to 0. Registers of a size outside the rule stay as they are.
-pub fn unpasses(words: &[u32; 60], rounds: usize, w: &mut [u8])
-    ensures { w.new ≡ unpassed_over (one_way words.now rounds) w.old }
+pub fn unpasses(schedule: &KeySchedule, w: &mut [u8])
+    ensures { w.new ≡ unpassed_over (one_way schedule.now.words schedule.now.rounds) w.old }
 {
     if !wrapped_size_fits(w.len()) {
         return;
@@ -59,28 +60,28 @@ pub fn unpasses(words: &[u32; 60], rounds: usize, w: &mut [u8])
     let mut j = 6;
     while j > 0 {
         j -= 1;
-        unpass(words, rounds, n, j, w);
+        unpass(schedule, n, j, w);
     }
 }
 
 // For i = n to 1, with t = n j + i.
-fn unpass(words: &[u32; 60], rounds: usize, n: usize, j: usize, w: &mut [u8])
+fn unpass(schedule: &KeySchedule, n: usize, j: usize, w: &mut [u8])
     requires { (length w.old ≡ 8 * n + 8) × (n ≤ 8) × (j < 6) }
-    ensures { w.new ≡ spec.unpass (one_way words.now rounds) n j n w.old }
+    ensures { w.new ≡ spec.unpass (one_way schedule.now.words schedule.now.rounds) n j n w.old }
 {
     let mut i = n;
     while i > 0 {
-        unstep(words, rounds, n * j + i, i, w);
+        unstep(schedule, n * j + i, i, w);
         i -= 1;
     }
 }
 
 // B = AES-1(K, (A ^ t) | R[i]), then A = MSB(64, B) and R[i] = LSB(64, B).
-fn unstep(words: &[u32; 60], rounds: usize, t: usize, i: usize, w: &mut [u8])
+fn unstep(schedule: &KeySchedule, t: usize, i: usize, w: &mut [u8])
     requires { (1 ≤ i) × (8 * i + 8 ≤ length w.old) × (t < 256) }
-    ensures { w.new ≡ spec.unstep (one_way words.now rounds) t i w.old }
+    ensures { w.new ≡ spec.unstep (one_way schedule.now.words schedule.now.rounds) t i w.old }
 {
     let given = counter_added(pair(w, i), t);
-    let made = decrypt_block(words, rounds, given);
+    let made = decrypt_block(schedule, given);
     put_back(w, i, made);
 }

@@ -1,6 +1,5 @@
 use mathlib.Core.Path.{sym, ◌∙◌}
 use borrow.Author.Tests.{leb-true}
-use borrow.Author.Rules.{rules}
 use Rattle.aes_rounds.proofs.absorb.Goals as goal
 
 pub take_in-requires : goal.take_in-requires

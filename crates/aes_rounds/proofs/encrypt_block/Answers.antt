@@ -7,4 +7,4 @@ use Rattle.aes_rounds.proofs.encrypt_block.Goals as goal
 
 pub returns : goal.returns
 returns c = let a = c.args in
-    c.take_in.ensures ∙ ap (encrypt_block s_box a.words.now a.rounds) (zeros_added a.block (search rules))
+    c.take_in.ensures ∙ ap (encrypt_block s_box a.schedule.now.words a.schedule.now.rounds) (zeros_added a.block (search rules))

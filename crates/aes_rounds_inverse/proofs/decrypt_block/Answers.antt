@@ -14,16 +14,16 @@ use borrow.Author.Rules.{rules}
 use Rattle.aes_rounds_inverse.proofs.decrypt_block.Goals as goal
 
 pub eq_inv_cipher-requires : goal.eq_inv_cipher-requires
-eq_inv_cipher-requires c = round-count c.args.rounds (sym c.is_round_count.ensures ∙ c.if-is_round_count.true)
+eq_inv_cipher-requires c = round-count c.args.schedule.now.rounds (sym c.is_usable.ensures ∙ c.if-is_usable.true)
 
-pub returns-then-is_round_count : goal.returns-then-is_round_count
+pub returns-then-is_usable : goal.returns-then-is_usable
 unfolding eq_decrypt_block
-returns-then-is_round_count c = let a = c.args in
+returns-then-is_usable c = let a = c.args in
     let o : Octets 16 a.block = record { size = search rules; bytes = λ k. (let h : Fits w8 (get_or a.block k 0) = search rules in h.fits) } in
-    simp (sym c.is_round_count.ensures ∙ c.if-is_round_count.true)
+    simp (sym c.is_usable.ensures ∙ c.if-is_usable.true)
     (c.block_of.ensures ∙ c.eq_inv_cipher.ensures
-    ∙ ap (eq_inv_cipher aes inv_s_box a.words.now a.rounds) (ap block_of c.columns_of.ensures ∙ loaded a.block o))
+    ∙ ap (eq_inv_cipher aes inv_s_box a.schedule.now.words a.schedule.now.rounds) (ap block_of c.columns_of.ensures ∙ loaded a.block o))
 
-pub returns : goal.returns
+pub returns-else-is_usable : goal.returns-else-is_usable
 unfolding eq_decrypt_block
-returns c = simp (sym c.is_round_count.ensures ∙ c.if-is_round_count.false)
+returns-else-is_usable c = simp (sym c.is_usable.ensures ∙ c.if-is_usable.false)

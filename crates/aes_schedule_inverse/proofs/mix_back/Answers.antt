@@ -1,9 +1,9 @@
 use mathlib.Core.Path.{◌≡◌, refl, ap, ◌∙◌}
 use mathlib.Core.List.{List}
-use Prim.Native.Nat.{ℕ, ◌+◌, ◌-◌, ◌≤◌, min}
+use Prim.Native.Nat.{ℕ, ◌+◌, min}
 use native.Mathlib.Omega.{arith}
 use borrow.Author.Rules.{rules}
-use lib.ListN.{length, get_or, set, length-set}
+use lib.ListN.{get_or, set, length-set}
 use Rattle.aes_mix.specs.Mixing.{inv_mix_column}
 use Rattle.aes_spec.specs.Model.{mixed_back}
 use Rattle.aes_spec.proofs.Equivalent.{mixed_none, mixed_more}

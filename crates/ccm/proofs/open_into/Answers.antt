@@ -15,7 +15,7 @@ use Rattle.ccm.proofs.open_into.Goals as goal
 pub returns-then-not-same_tag : goal.returns-then-not-same_tag
 returns-then-not-same_tag c = let m = c.opened_mac-made in
     let a = c.args in
-    let e = standard a.words.now a.rounds in
+    let e = standard a.schedule.now.words a.schedule.now.rounds in
     let z = a.sealed.now in
     let ctr : c.flagged-ctr.result ≡ counter a.nonce.now 0 = c.flagged-ctr.ensures ∙ ap (λ (y : List ℕ). flagged 1 y 0) c.thirteen-n.ensures in
     let t = open_wrong e a.nonce.now a.ad.now z a.output.now m.result c.leading_sum-found.result (length z - 8 - 0) (omega arith)
@@ -27,7 +27,7 @@ returns-then-not-same_tag c = let m = c.opened_mac-made in
 pub returns : goal.returns
 returns c = let m = c.opened_mac-made in
     let a = c.args in
-    let e = standard a.words.now a.rounds in
+    let e = standard a.schedule.now.words a.schedule.now.rounds in
     let z = a.sealed.now in
     let ctr : c.flagged-ctr.result ≡ counter a.nonce.now 0 = c.flagged-ctr.ensures ∙ ap (λ (y : List ℕ). flagged 1 y 0) c.thirteen-n.ensures in
     let t = open_right e a.nonce.now a.ad.now z a.output.now m.result c.leading_sum-found.result (length z - 8 - 0) (omega arith)

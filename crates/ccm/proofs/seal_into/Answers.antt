@@ -15,7 +15,7 @@ use Rattle.ccm.proofs.seal_into.Goals as goal
 pub returns : goal.returns
 returns c = let w = c.copy in
     let a = c.args in
-    let e = standard a.words.now a.rounds in
+    let e = standard a.schedule.now.words a.schedule.now.rounds in
     let ctr : c.flagged-ctr.result ≡ counter a.nonce.now 0 = c.flagged-ctr.ensures ∙ ap (λ (y : List ℕ). flagged 1 y 0) c.thirteen-n.ensures in
     let lt : length c.xor-tag.result ≡ 16 = search rules in
     let et : c.xor-tag.result ≡ mac_over e a.nonce.now a.ad.now a.message.now ⊕ e.enc (counter a.nonce.now 0) =

@@ -13,12 +13,12 @@ use Rattle.ccm_chain.proofs.through.Goals as goal
 
 pub returns-then-at-message : goal.returns-then-at-message
 returns-then-at-message c = let a = c.args in
-    c.chained-value.ensures ∙ through_whole (standard a.words.now a.rounds) a.chain a.message.now c.if-at-message.true
+    c.chained-value.ensures ∙ through_whole (standard a.schedule.now.words a.schedule.now.rounds) a.chain a.message.now c.if-at-message.true
 
 pub returns : goal.returns
 returns c = let f = c.piece_filled-rest in
     let a = c.args in
-    let e = standard a.words.now a.rounds in
+    let e = standard a.schedule.now.words a.schedule.now.rounds in
     let m = a.message.now in
     let at = length m / 16 * 16 in
     let lr : length f.result ≡ 16 = search rules in

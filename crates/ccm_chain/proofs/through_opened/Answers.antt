@@ -22,7 +22,7 @@ pub loop-i-preserved : goal.loop-i-preserved
 loop-i-preserved c = let m = c.leading_sum-plain in
     let l = c.loop-i in
     let a = c.args in
-    let e = standard a.words.now a.rounds in
+    let e = standard a.schedule.now.words a.schedule.now.rounds in
     let inp = a.input.now in
     let b : m.result ≡ pad_to 16 (drop (l.i * 16) inp ⊕ e.enc (numbered_as a.ctr (l.i + 1))) =
     m.ensures ∙ ap (λ (x : List ℕ). pad_to 16 (drop (l.i * 16) inp ⊕ x)) (c.encrypt_block-made.ensures ∙ ap e.enc c.numbered.ensures) in
@@ -38,6 +38,6 @@ pub returns : goal.returns
 returns c = let l = c.loop-i in
     let n = c.piece_count-i-end in
     let a = c.args in
-    let e = standard a.words.now a.rounds in
+    let e = standard a.schedule.now.words a.schedule.now.rounds in
     let i : l.i ≡ n.result = omega arith in
     l.invariant.2 ∙ ap (λ (k : ℕ). cmac.chained e a.chain k (pieces e a.ctr a.input.now k)) (i ∙ n.ensures)

@@ -27,7 +27,7 @@ loop-i-preserved c = let w = c.put_leading in
     let l = c.loop-i in
     let n = c.piece_count-i-end.ensures in
     let a = c.args in
-    let e = standard a.words.now a.rounds in
+    let e = standard a.schedule.now.words a.schedule.now.rounds in
     let inp = a.input.now in
     let b : m.result ≡ pad_to 16 (drop (l.i * 16) inp ⊕ e.enc (numbered_as a.ctr (l.i + 1))) =
     m.ensures ∙ ap (λ (x : List ℕ). pad_to 16 (drop (l.i * 16) inp ⊕ x)) (c.encrypt_block-made.ensures ∙ ap e.enc c.numbered.ensures) in
@@ -42,5 +42,5 @@ pub returns : goal.returns
 returns c = let l = c.loop-i in
     let n = c.piece_count-i-end in
     let a = c.args in
-    pieces_written (standard a.words.now a.rounds) a.ctr a.input.now a.output.now c.requires l.i l.output [] l.invariant.1 l.invariant.2 l.invariant.3
+    pieces_written (standard a.schedule.now.words a.schedule.now.rounds) a.ctr a.input.now a.output.now c.requires l.i l.output [] l.invariant.1 l.invariant.2 l.invariant.3
     n.result n.ensures (omega arith)

@@ -6,4 +6,4 @@ use Rattle.cmac.proofs.check_with.Goals as goal
 pub returns : goal.returns
 returns c =
     let a = c.args in
-    c.close_run.ensures ∙ rw (c.fed-run.ensures, c.new.ensures) (whole_fed (standard a.words.now a.rounds) a.message.now)
+    c.close_run.ensures ∙ rw (c.fed-run.ensures, c.new.ensures) (whole_fed (standard a.schedule.now.words a.schedule.now.rounds) a.message.now)

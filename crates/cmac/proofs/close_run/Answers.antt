@@ -8,4 +8,4 @@ pub returns : goal.returns
 unfolding key2
 returns c =
     let a = c.args in
-    c.closed.ensures ∙ rw (c.key2-key2.ensures, c.key1-key1.ensures) (closed-by (standard a.words.now a.rounds) a.run)
+    c.closed.ensures ∙ rw (c.key2-key2.ensures, c.key1-key1.ensures) (closed-by (standard a.schedule.now.words a.schedule.now.rounds) a.run)

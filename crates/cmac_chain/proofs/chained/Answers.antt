@@ -16,7 +16,7 @@ pub loop-i-preserved : goal.loop-i-preserved
 loop-i-preserved c =
     let a = c.args in
     let l = c.loop-i in
-    let turn = chained_turn (standard a.words.now a.rounds) l.value a.part.now l.i (length a.part.now / 16) c.loop-i-test.true in (
+    let turn = chained_turn (standard a.schedule.now.words a.schedule.now.rounds) l.value a.part.now l.i (length a.part.now / 16) c.loop-i-test.true in (
       search rules,
       refl,
       rw (c.absorb.ensures, le-leb (l.i * 16 + 16) (length a.part.now) (omega arith)) (sym turn ∙ l.invariant.2),
@@ -26,4 +26,4 @@ pub returns : goal.returns
 returns c =
     let a = c.args in
     let l = c.loop-i in
-    sym (chained_end (standard a.words.now a.rounds) l.value (drop (l.i * 16) a.part.now) l.i (length a.part.now / 16) c.loop-i-test.false) ∙ l.invariant.2
+    sym (chained_end (standard a.schedule.now.words a.schedule.now.rounds) l.value (drop (l.i * 16) a.part.now) l.i (length a.part.now / 16) c.loop-i-test.false) ∙ l.invariant.2

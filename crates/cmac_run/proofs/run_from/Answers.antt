@@ -11,6 +11,6 @@ returns c =
     let a = c.args in
     let b = c.before_last-n in
     let n = b.result in
-    let e = standard a.words.now a.rounds in
+    let e = standard a.schedule.now.words a.schedule.now.rounds in
     taken_holding e a.chain a.part.now n _ _ _ b.ensures
     (c.chained-after.ensures ∙ chained_part e a.chain a.part.now n (n * 16 - 0) (omega (arith, b.ensures)) (omega arith)) (to_end a.part.now (n * 16)) c.piece_filled-held.ensures

@@ -9,16 +9,16 @@ use Rattle.modes.proofs.under_schedule.Goals as goal
 pub returns-then-inverts : goal.returns-then-inverts
 returns-then-inverts c =
     let a = c.args in
-    let w = a.words.now in
+    let w = a.schedule.now.words in
     c.run.ensures
-    ∙ ap (λ (v : List ℕ). run_over (one_way v a.rounds) a.operation a.iv a.input.now a.output.now) c.inverse_words.ensures
-    ∙ through_backward w (inverse_words w a.rounds) a.rounds a.operation a.iv a.input.now a.output.now
+    ∙ ap (λ (v : List ℕ). run_over (one_way v a.schedule.now.rounds) a.operation a.iv a.input.now a.output.now) c.inverse_words.ensures
+    ∙ through_backward w (inverse_words w a.schedule.now.rounds) a.schedule.now.rounds a.operation a.iv a.input.now a.output.now
     (sym c.inverts.ensures ∙ c.if-inverts.true)
 
 pub returns : goal.returns
 returns c =
     let a = c.args in
-    let w = a.words.now in
+    let w = a.schedule.now.words in
     c.run-2.ensures
-    ∙ through_forward w (inverse_words w a.rounds) a.rounds a.operation a.iv a.input.now a.output.now
+    ∙ through_forward w (inverse_words w a.schedule.now.rounds) a.schedule.now.rounds a.operation a.iv a.input.now a.output.now
     (sym c.inverts.ensures ∙ c.if-inverts.false)

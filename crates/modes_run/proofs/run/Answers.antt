@@ -7,11 +7,11 @@ use Rattle.modes_run.proofs.run.Goals as goal
 pub returns-then-any_length : goal.returns-then-any_length
 returns-then-any_length c =
     let a = c.args in
-    run_all (one_way a.words.now a.rounds) a.operation a.iv a.input.now a.output.now _ _ c.whole_pieces-chain.ensures
+    run_all (one_way a.schedule.now.words a.schedule.now.rounds) a.operation a.iv a.input.now a.output.now _ _ c.whole_pieces-chain.ensures
     (sym c.any_length.ensures ∙ c.if-any_length.true) _ c.smaller-end.ensures (search rules) _ _ c.last_piece.ensures
 
 pub returns : goal.returns
 returns c =
     let a = c.args in
-    run_whole (one_way a.words.now a.rounds) a.operation a.iv a.input.now a.output.now _ _ c.whole_pieces-chain.ensures
+    run_whole (one_way a.schedule.now.words a.schedule.now.rounds) a.operation a.iv a.input.now a.output.now _ _ c.whole_pieces-chain.ensures
     (sym c.any_length.ensures ∙ c.if-any_length.false)

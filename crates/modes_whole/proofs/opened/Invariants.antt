@@ -10,6 +10,6 @@ use Rattle.modes_whole.proofs.opened.Given as goal
 
 abbrev pub invariant-loop-i : goal.invariant-loop-i
 invariant-loop-i l =
-    let m = machine (one_way l.words l.rounds) CbcDecrypt in
+    let m = machine (one_way l.schedule.words l.schedule.rounds) CbcDecrypt in
     (l.i ≤ l.n) × (length l.output ≡ length l.initial.output) × (length (output_of 16 m l.initial.chain l.i l.input) ≡ l.i * 16)
     × (l.chain ≡ after 16 m l.initial.chain l.i l.input) × (l.output ≡ output_of 16 m l.initial.chain l.i l.input ++ drop (l.i * 16) l.initial.output)

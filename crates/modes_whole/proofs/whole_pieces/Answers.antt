@@ -25,7 +25,7 @@ opened-requires c =
 pub returns-in-CbcDecrypt : goal.returns-in-CbcDecrypt
 returns-in-CbcDecrypt c =
     let a = c.args in
-    let e = one_way a.words.now a.rounds in
+    let e = one_way a.schedule.now.words a.schedule.now.rounds in
     c.opened.ensures
     ∙ ap (λ (k : ℕ). ran 16 (machine e CbcDecrypt) a.iv (k / 16) a.input.now a.output.now) c.smaller-both.ensures
     ∙ ap (λ (v : Operation). ran_whole (machine e v) a.iv a.input.now a.output.now) (sym c.in-CbcDecrypt.is)
@@ -40,7 +40,7 @@ loop-i-preserved c =
     let l = c.loop-i in
     let a = c.args in
     let inp = a.input.now in
-    let m = machine (one_way a.words.now a.rounds) a.operation in
+    let m = machine (one_way a.schedule.now.words a.schedule.now.rounds) a.operation in
     let st = after 16 m a.iv l.i inp in
     let f = c.step-s.result.out in
     let lf : length f ≡ 16 = search rules in

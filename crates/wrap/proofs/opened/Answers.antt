@@ -12,7 +12,7 @@ returns c =
     let u = c.unpasses in
     let cp = c.copy in
     let a = c.args in
-    let k = one_way a.words.now a.rounds in record {
+    let k = one_way a.schedule.now.words a.schedule.now.rounds in record {
       registers = opened_by k a.given.now c.requires.0 c.requires.1 c.requires.2 (length a.given.now - 0) (omega arith) _ _ _ (cp.ensures ∙ copied_fits a.given.now 0 _ (omega (arith, c.requires.1))) u.ensures u.auto.w refl;
       size = opened_size k a.given.now c.requires.0 c.requires.1 c.requires.2 (length a.given.now - 0) (omega arith) _ _ _ (cp.ensures ∙ copied_fits a.given.now 0 _ (omega (arith, c.requires.1))) u.ensures u.auto.w refl;
     }

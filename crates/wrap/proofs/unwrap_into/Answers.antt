@@ -9,12 +9,12 @@ pub returns-then-not-is_initial : goal.returns-then-not-is_initial
 returns-then-not-is_initial c =
     let o = c.opened-w in
     let a = c.args in
-    let t = opened_wrong (one_way a.words.now a.rounds) a.given.now a.output.now o.result (omega (arith, c.requires.0)) o.ensures.registers o.ensures.size _ c.is_initial.ensures c.if-not-is_initial.true in
+    let t = opened_wrong (one_way a.schedule.now.words a.schedule.now.rounds) a.given.now a.output.now o.result (omega (arith, c.requires.0)) o.ensures.registers o.ensures.size _ c.is_initial.ensures c.if-not-is_initial.true in
     record { answer = t.0; written = t.1 }
 
 pub returns : goal.returns
 returns c =
     let o = c.opened-w in
     let a = c.args in
-    let t = opened_right (one_way a.words.now a.rounds) a.given.now a.output.now o.result (omega (arith, c.requires.0)) o.ensures.registers o.ensures.size _ c.is_initial.ensures c.if-not-is_initial.false _ (c.copy.ensures ∙ copied_fits _ 0 a.output.now (omega (arith, c.requires))) in
+    let t = opened_right (one_way a.schedule.now.words a.schedule.now.rounds) a.given.now a.output.now o.result (omega (arith, c.requires.0)) o.ensures.registers o.ensures.size _ c.is_initial.ensures c.if-not-is_initial.false _ (c.copy.ensures ∙ copied_fits _ 0 a.output.now (omega (arith, c.requires))) in
     record { answer = t.0; written = t.1 }

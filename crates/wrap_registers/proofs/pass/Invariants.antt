@@ -6,4 +6,4 @@ use Rattle.wrap_spec.specs.Wrap.{pass}
 use Rattle.wrap_registers.proofs.pass.Given as goal
 
 abbrev pub invariant-loop-m : goal.invariant-loop-m
-invariant-loop-m l = (l.m ≤ l.n) × (length l.w ≡ length l.initial.w) × (l.w ≡ pass (standard l.words l.rounds) l.n l.j l.m l.initial.w)
+invariant-loop-m l = (l.m ≤ l.n) × (length l.w ≡ length l.initial.w) × (l.w ≡ pass (standard l.schedule.words l.schedule.rounds) l.n l.j l.m l.initial.w)

@@ -12,18 +12,18 @@ use Rattle.wrap_registers.proofs.passes.Goals as goal
 pub returns-then-not-wrapped_size_fits : goal.returns-then-not-wrapped_size_fits
 returns-then-not-wrapped_size_fits c =
     let a = c.args in
-    passed_wrong (standard a.words.now a.rounds) a.w.now (sym c.wrapped_size_fits.ensures ∙ c.if-not-wrapped_size_fits.true)
+    passed_wrong (standard a.schedule.now.words a.schedule.now.rounds) a.w.now (sym c.wrapped_size_fits.ensures ∙ c.if-not-wrapped_size_fits.true)
 
 pub loop-j-init : goal.loop-j-init
 loop-j-init c =
     let a = c.args in
-    (omega arith, refl, passes_none (standard a.words.now a.rounds) (length a.w.now / 8 - 1) a.w.now)
+    (omega arith, refl, passes_none (standard a.schedule.now.words a.schedule.now.rounds) (length a.w.now / 8 - 1) a.w.now)
 
 pub loop-j-preserved : goal.loop-j-preserved
 loop-j-preserved c =
     let l = c.loop-j in
     let a = c.args in
-    let k = standard a.words.now a.rounds in
+    let k = standard a.schedule.now.words a.schedule.now.rounds in
     let n = length a.w.now / 8 - 1 in (
       omega arith,
       search rules,
@@ -34,7 +34,7 @@ pub returns : goal.returns
 returns c =
     let l = c.loop-j in
     let a = c.args in
-    let k = standard a.words.now a.rounds in
+    let k = standard a.schedule.now.words a.schedule.now.rounds in
     let n = length a.w.now / 8 - 1 in
     let e : l.j ≡ 6 = omega arith in
     l.invariant.2 ∙ ap (λ (x : ℕ). passes k n x a.w.now) e ∙ passed_right k a.w.now (sym c.wrapped_size_fits.ensures ∙ c.if-not-wrapped_size_fits.false)

@@ -6,4 +6,4 @@ use Rattle.wrap_spec.specs.Wrap.{passes}
 use Rattle.wrap_registers.proofs.passes.Given as goal
 
 abbrev pub invariant-loop-j : goal.invariant-loop-j
-invariant-loop-j l = (l.j ≤ 6) × (length l.w ≡ length l.initial.w) × (l.w ≡ passes (standard l.words l.rounds) l.n l.j l.initial.w)
+invariant-loop-j l = (l.j ≤ 6) × (length l.w ≡ length l.initial.w) × (l.w ≡ passes (standard l.schedule.words l.schedule.rounds) l.n l.j l.initial.w)

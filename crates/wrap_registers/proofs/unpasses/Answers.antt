@@ -12,7 +12,7 @@ use Rattle.wrap_registers.proofs.unpasses.Goals as goal
 pub returns-then-not-wrapped_size_fits : goal.returns-then-not-wrapped_size_fits
 returns-then-not-wrapped_size_fits c =
     let a = c.args in
-    unpassed_wrong (one_way a.words.now a.rounds) a.w.now (sym c.wrapped_size_fits.ensures ∙ c.if-not-wrapped_size_fits.true)
+    unpassed_wrong (one_way a.schedule.now.words a.schedule.now.rounds) a.w.now (sym c.wrapped_size_fits.ensures ∙ c.if-not-wrapped_size_fits.true)
 
 pub loop-j-init : goal.loop-j-init
 loop-j-init c = (omega arith, refl, refl)
@@ -21,7 +21,7 @@ pub loop-j-preserved : goal.loop-j-preserved
 loop-j-preserved c =
     let l = c.loop-j in
     let a = c.args in
-    let k = one_way a.words.now a.rounds in
+    let k = one_way a.schedule.now.words a.schedule.now.rounds in
     let n = length a.w.now / 8 - 1 in (
       omega arith,
       search rules,
@@ -32,7 +32,7 @@ pub returns : goal.returns
 returns c =
     let l = c.loop-j in
     let a = c.args in
-    let k = one_way a.words.now a.rounds in
+    let k = one_way a.schedule.now.words a.schedule.now.rounds in
     let n = length a.w.now / 8 - 1 in
     let e : l.j ≡ 0 = omega arith in
     sym (unpasses_none k n l.w) ∙ ap (λ (x : ℕ). unpasses k n x l.w) (sym e) ∙ l.invariant.2

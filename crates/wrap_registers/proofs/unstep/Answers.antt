@@ -12,4 +12,4 @@ returns c =
     let p = c.pair in
     let a = c.args in
     b.ensures
-    ∙ unstep_by (one_way a.words.now a.rounds) a.t a.i a.w.now p.result x.result d.result (omega (arith, c.requires.1)) p.ensures x.ensures d.ensures
+    ∙ unstep_by (one_way a.schedule.now.words a.schedule.now.rounds) a.t a.i a.w.now p.result x.result d.result (omega (arith, c.requires.1)) p.ensures x.ensures d.ensures

@@ -19,5 +19,5 @@ returns c = let a = c.args in
     let b = c.last_bytes-last in
     let o : Octets 16 b.result = record { size = search rules; bytes = λ k. (let h : Fits w8 (get_or b.result k 0) = search rules in h.fits) } in
     c.as_columns.ensures ∙ c.add_round_key.ensures
-    ∙ ap (add_round_key aes a.words.now a.rounds) (ap block_of c.columns_of.ensures ∙ loaded b.result o
+    ∙ ap (add_round_key aes a.schedule.now.words a.schedule.now.rounds) (ap block_of c.columns_of.ensures ∙ loaded b.result o
     ∙ b.ensures ∙ ap (λ (x : List ℕ). shift_rows aes (sub_bytes s_box x)) c.forth.ensures)

@@ -1,4 +1,4 @@
-use Prim.Native.Nat.{ℕ, ◌+◌, ◌-◌, ◌≤◌, ◌<◌}
+use Prim.Native.Nat.{ℕ, ◌+◌, ◌-◌}
 use mathlib.Core.Path.{◌≡◌, ap, ap₂, ◌∙◌}
 use mathlib.Core.List.{List}
 use native.Mathlib.Omega.{arith}
@@ -14,7 +14,7 @@ pub loop-n-init : goal.loop-n-init
 loop-n-init c = (search rules, rounds_none _ _)
 
 pub loop-n-preserved : goal.loop-n-preserved
-loop-n-preserved c = let w = c.args.words.now in
+loop-n-preserved c = let w = c.args.schedule.now.words in
     let s = bytes_of c.add_round_key-t.result in
     let l = c.loop-n in
     let back : l.n ≡ l.n + 1 - 1 = omega arith in (
@@ -26,5 +26,5 @@ loop-n-preserved c = let w = c.args.words.now in
 pub returns : goal.returns
 returns c = let l = c.loop-n in
     let a = c.args in
-    let e : l.n ≡ a.rounds = omega arith in
-    l.invariant.1 ∙ ap₂ (λ (i : ℕ) (x : List ℕ). rounds aes s_box a.words.now (i - 1) x) e c.add_round_key-t.ensures
+    let e : l.n ≡ a.schedule.now.rounds = omega arith in
+    l.invariant.1 ∙ ap₂ (λ (i : ℕ) (x : List ℕ). rounds aes s_box a.schedule.now.words (i - 1) x) e c.add_round_key-t.ensures

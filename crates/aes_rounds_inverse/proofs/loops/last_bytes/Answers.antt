@@ -1,8 +1,7 @@
-use Prim.Native.Nat.{◌-◌, ◌≤◌}
 use mathlib.Core.Path.{refl, ◌∙◌}
 use borrow.Author.Rules.{rules}
-use Rattle.octets.proofs.Fill.{Filled, filled_none, filled_more, filled_all}
-use Rattle.aes_rounds_inverse.proofs.Rounds.{last_byte, last_byte_is, last_law}
+use Rattle.octets.proofs.Fill.{filled_none, filled_more, filled_all}
+use Rattle.aes_rounds_inverse.proofs.Rounds.{last_byte_is, last_law}
 use Rattle.aes_rounds_inverse.proofs.loops.last_bytes.Goals as goal
 
 pub loop-m-init : goal.loop-m-init

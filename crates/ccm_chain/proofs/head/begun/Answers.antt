@@ -14,12 +14,12 @@ pub returns-then-ad-eq0 : goal.returns-then-ad-eq0
 returns-then-ad-eq0 c = let a = c.args in
     let b : c.flagged-first.result ≡ first a.nonce a.ad.now a.len = c.flagged-first.ensures ∙ ap (λ (x : ℕ). flagged x a.nonce a.len) c.first_flags.ensures in
     let n : length c.flagged-first.result ≡ 16 = search rules in
-    c.chained-start.ensures ∙ begun_none (standard a.words.now a.rounds) a.nonce a.ad.now a.len c.flagged-first.result b n c.if-ad-eq0.true
+    c.chained-start.ensures ∙ begun_none (standard a.schedule.now.words a.schedule.now.rounds) a.nonce a.ad.now a.len c.flagged-first.result b n c.if-ad-eq0.true
 
 pub returns : goal.returns
 returns c = let d = c.encoded-data in
     let a = c.args in
-    let e = standard a.words.now a.rounds in
+    let e = standard a.schedule.now.words a.schedule.now.rounds in
     let ad = a.ad.now in
     let m = (length ad + 17) / 16 * 16 - 0 in
     let b : c.flagged-first.result ≡ first a.nonce ad a.len = c.flagged-first.ensures ∙ ap (λ (x : ℕ). flagged x a.nonce a.len) c.first_flags.ensures in

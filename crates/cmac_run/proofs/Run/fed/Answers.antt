@@ -12,11 +12,11 @@ returns-then-part-room c =
     let x = c.args.self in
     let size : length x.held ≡ 16 = search rules in
     rw (c.piece_filled-piece.ensures, c.room_after-room.ensures)
-    (fed_room x.held size (standard c.args.words.now c.args.rounds) x.chain x.count c.args.part.now (search rules))
+    (fed_room x.held size (standard c.args.schedule.now.words c.args.schedule.now.rounds) x.chain x.count c.args.part.now (search rules))
 
 pub returns : goal.returns
 returns c =
     let x = c.args.self in
     let size : length x.held ≡ 16 = search rules in
     c.run_from.ensures ∙ rw (c.encrypt_block-next.ensures, c.xor.ensures, c.piece_filled-piece.ensures, c.room_after-room.ensures, to_end c.args.part.now (16 - x.count))
-    (fed_over x.held size (standard c.args.words.now c.args.rounds) x.chain x.count c.args.part.now (search rules))
+    (fed_over x.held size (standard c.args.schedule.now.words c.args.schedule.now.rounds) x.chain x.count c.args.part.now (search rules))

@@ -10,7 +10,7 @@ use Rattle.modes_run.proofs.last.last_piece.Goals as goal
 pub returns-then-input-eq0 : goal.returns-then-input-eq0
 returns-then-input-eq0 c =
     let a = c.args in
-    rest_none (machine (one_way a.words.now a.rounds) Ofb) a.chain a.input.now a.output.now (search rules)
+    rest_none (machine (one_way a.schedule.now.words a.schedule.now.rounds) Ofb) a.chain a.input.now a.output.now (search rules)
 
 pub returns : goal.returns
 returns c =
@@ -19,4 +19,4 @@ returns c =
     let some : 0 < length s = search rules in
     let h : length s ≤ 16 = search rules in
     rw (c.add.ensures, c.encrypt_block-output_block.ensures)
-    (rest_one (machine (one_way a.words.now a.rounds) Ofb) a.chain s a.output.now some h (search rules))
+    (rest_one (machine (one_way a.schedule.now.words a.schedule.now.rounds) Ofb) a.chain s a.output.now some h (search rules))
