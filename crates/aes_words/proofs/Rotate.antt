@@ -1,5 +1,9 @@
 -- Rotation by division, and a word of substituted bytes. Assumes nothing.
 use mathlib.Core.Path.{◌≡◌, sym, ap, ◌∙◌}
+use lib.Bits.{bit_or, or_shifted}
+use native.Mathlib.Nat.{add_comm}
+use Rattle.std.specs.Int.{from_be_bytes}
+use Rattle.std.proofs.Common.{w32}
 use Prim.Native.Nat.{ℕ, ◌+◌, ◌*◌, ◌/◌, ◌%◌, ◌<◌}
 use native.Mathlib.Omega.{arith}
 use mathlib.Core.List.{[], ◌∷◌}
@@ -47,6 +51,33 @@ module _ (x : ℕ) (h : x < 4294967296) where
   rot_three_code =
       ap (λ (y : ℕ). y / 256 + y % 256 * 16777216) (sym (word_bytes x h))
       ∙ by_three (byte 0 x) (byte 1 x) (byte 2 x) (byte 3 x) (byte_lt 0 x) (byte_lt 1 x) (byte_lt 2 x) (byte_lt 3 x)
+
+-- ---- the same as the library rotates
+
+module _ (x : ℕ) (h : x < 4294967296) where
+  pub rotated_one : bit_or (x * 256 % 4294967296) (x / 16777216) ≡ rot_word x
+  rotated_one =
+      let e : x * 256 % 4294967296 ≡ x % 16777216 * 256 = omega arith in
+      let f : bit_or (x % 16777216 * 256) (x / 16777216) ≡ x % 16777216 * 256 + x / 16777216 = or_shifted (x % 16777216) 8 (x / 16777216) (omega arith) in
+      rw (e, f) (add_comm (x % 16777216 * 256) (x / 16777216) ∙ rot_one_code x h)
+
+  pub rotated_two : bit_or (x * 65536 % 4294967296) (x / 65536) ≡ rot_two x
+  rotated_two =
+      let e : x * 65536 % 4294967296 ≡ x % 65536 * 65536 = omega arith in
+      let f : bit_or (x % 65536 * 65536) (x / 65536) ≡ x % 65536 * 65536 + x / 65536 = or_shifted (x % 65536) 16 (x / 65536) (omega arith) in
+      rw (e, f) (add_comm (x % 65536 * 65536) (x / 65536) ∙ rot_two_code x h)
+
+  pub rotated_three : bit_or (x * 16777216 % 4294967296) (x / 256) ≡ rot_three x
+  rotated_three =
+      let e : x * 16777216 % 4294967296 ≡ x % 256 * 16777216 = omega arith in
+      let f : bit_or (x % 256 * 16777216) (x / 256) ≡ x % 256 * 16777216 + x / 256 = or_shifted (x % 256) 24 (x / 256) (omega arith) in
+      rw (e, f) (add_comm (x % 256 * 16777216) (x / 256) ∙ rot_three_code x h)
+
+-- ---- words and their bytes, as the library joins and splits them
+
+pub joined : (a b c d : ℕ) → from_be_bytes w32 (a ∷ b ∷ c ∷ d ∷ []) ≡ word a b c d
+unfolding word
+joined a b c d = omega arith
 
 pub same_word : {a b c d p q u v : ℕ} → a ≡ p → b ≡ q → c ≡ u → d ≡ v → word a b c d ≡ word p q u v
 same_word {a} {b} {c} {d} {p} {q} {u} {v} e f g h =

@@ -1,8 +1,7 @@
 // Slices of bytes: copied into another where there is room, the smaller of two lengths, a part of one, and whether two are the same.
 #![tactic(auto)]
 
-ghost use Rattle.std.specs.Prelude.{◌≡◌, ◌+◌, ◌-◌, ◌≤◌, min, eqb, leb, length, take, drop};
-ghost use Rattle.std.proofs.Math.Seq.{paste};
+ghost use Rattle.std.specs.Prelude.{◌≡◌, ◌+◌, ◌-◌, min, eqb, leb, length, take, drop};
 ghost use Rattle.octets.specs.Octets.{same};
 ghost use Rattle.octets_slice.specs.Slices.{copied};
 
