@@ -1,21 +1,24 @@
 // Blocks of 16 bytes by value: out of a slice, into a slice, and their sum.
 #![tactic(auto)]
 
-ghost use Rattle.std.specs.Prelude.{◌≡◌, ◌+◌, ◌≤◌, length, take, drop};
+ghost use Rattle.std.specs.Prelude.{◌≡◌};
 ghost use Rattle.octets.specs.Blocks.{◌⊕◌};
 ghost use Rattle.octets_slice.specs.Slices.{copied};
 ghost use Rattle.octets_block.specs.Blocks.{block_at};
 
 use octets_slice::{copy, has_room};
+use std::array;
 
 // The 16 bytes of s from a place on; zeros if s ends before.
+#[tactic(auto, unfolding(crate::specs::Blocks::block_at))]
 pub fn load(s: &[u8], at: usize) -> [u8; 16]
     ensures { result ≡ block_at s.now at }
 {
+    let mut block = [0; 16];
     if has_room(s.len(), at, 16) {
-        return get(s, at);
+        block.copy_from_slice(&s[at..at + 16]);
     }
-    [0u8; 16]
+    block
 }
 
 // Puts the block into s from a place on; leaves s as it is if s ends before.
@@ -28,20 +31,5 @@ pub fn store(s: &mut [u8], at: usize, block: [u8; 16])
 pub fn xor(a: [u8; 16], b: [u8; 16]) -> [u8; 16]
     ensures { result ≡ a ⊕ b }
 {
-    let mut sum = [0u8; 16];
-    for i in 0..16 {
-        sum[i] = a[i] ^ b[i];
-    }
-    sum
-}
-
-fn get(s: &[u8], at: usize) -> [u8; 16]
-    requires { at + 16 ≤ length s.now }
-    ensures { result ≡ take 16 (drop at s.now) }
-{
-    let mut block = [0u8; 16];
-    for i in 0..16 {
-        block[i] = s[at + i];
-    }
-    block
+    array::from_fn(|i| a[i] ^ b[i])
 }

@@ -1,17 +1,10 @@
-use mathlib.Core.Path.{refl, sym, ◌∙◌}
-use Rattle.octets.specs.Octets as octets
-use Rattle.octets.proofs.Fill.{filled_none, filled_more, filled_all}
-use Rattle.octets_block.proofs.Laws.{sum_tabulate}
-use native.Mathlib.Omega.{arith}
-use borrow.Author.Rules.{rules}
+use Rattle.std.proofs.Common.{◌∙◌, sym, rules, get_or}
+use Rattle.octets.specs.Octets.{xor}
+use Rattle.octets_block.proofs.Laws.{made_tabulate, sum_tabulate}
 use Rattle.octets_block.proofs.xor.Goals as goal
 
-pub loop-i-init : goal.loop-i-init
-loop-i-init c = (search rules, filled_none 16 _ _ refl)
-
-pub loop-i-preserved : goal.loop-i-preserved
-unfolding octets.xor
-loop-i-preserved c = (search rules, filled_more c.loop-i.invariant.1 c.loop-i-test.true _ refl)
-
 pub returns : goal.returns
-returns c = filled_all c.loop-i.invariant.1 c.loop-i-test.false ∙ sym (sum_tabulate 16 c.args.a c.args.b c.well_formed.0.1.0.1 (omega (arith, c.well_formed.1.0.1.0.1)))
+unfolding xor
+returns c = let a = c.args in
+    made_tabulate _ _ (λ k. xor (get_or a.a k 0) (get_or a.b k 0)) (λ i y q k. search rules) c.from_fn.result 16 c.from_fn.ensures.items
+    ∙ sym (sum_tabulate 16 a.a a.b (search rules) (search rules))
