@@ -2,10 +2,10 @@
 use mathlib.Core.Path.{◌≡◌, refl, sym, ap, ap₂, ◌∙◌}
 use mathlib.Core.Bool.{Bool, true, false, ◌&&◌, cond}
 use mathlib.Core.List.{List, [], ◌++◌, append-nil}
-use Prim.Native.Nat.{ℕ}
+use Prim.Native.Nat.{ℕ, ◌+◌, ◌-◌}
 use native.Mathlib.Omega.{arith}
-use lib.ListN.{length, take, drop, replicate, length-drop}
-use lib.Seq.{take_all}
+use lib.ListN.{length, take, drop, replicate, length-append, length-drop, length-replicate}
+use lib.Seq.{take_all, take-length, take-append_seam, drop-append-add}
 use Rattle.octets.specs.Octets.{same}
 use Rattle.aes_sbox.specs.Sbox.{s_box}
 use Rattle.aes_schedule.specs.Schedule.{round_count, schedule_of}
@@ -13,10 +13,10 @@ use Rattle.aes_schedule.specs.declared.Expanded.{Expanded}
 use Rattle.aes_spec.specs.Cipher.{standard}
 use Rattle.cmac_spec.specs.Cmac.{cmac}
 use Rattle.octets_slice.specs.Slices.{copied}
+use Rattle.octets_slice.proofs.Laws.{copied_fits, drop_zeros}
 use Rattle.image_spec.specs.Sealed.{Mac}
 use Rattle.image_spec.specs.KeyPair.{both_taken}
 use Rattle.image_bookmark.specs.Bookmark.{front_of_lem}
-use Rattle.image_bookmark.proofs.Laws.{next_part}
 use Rattle.image_reader.specs.Calls.{start_of, keys_of}
 use Rattle.image_reader.specs.declared.Reader.{Reader}
 use Rattle.image_reader_bookmark.specs.Calls.{bookmark_under, save_of, is_bookmark, resumed_with, refused_with, resume_of}
@@ -42,6 +42,14 @@ module _ (r : Reader) (n : ℕ) where
       → b ≡ save_of r n
   unfolding save_of
   save_by ee ec f c b ef eb e = e ∙ rw (eb, ef, ee, ec)
+
+-- a list put behind another, over zeros, of which m are left
+next_part : (n m at : ℕ) (a s : List ℕ) → length a ≡ at → length s + m ≡ n → copied s at (a ++ replicate n 0) ≡ a ++ s ++ replicate m 0
+next_part n m at a s ea h =
+    let e : n - length s ≡ m = omega arith in
+    ap (λ (k : ℕ). copied s k (a ++ replicate n 0)) (sym ea)
+    ∙ copied_fits s (length a) (a ++ replicate n 0) (omega (arith, length-append a (replicate n 0), length-replicate {A = ℕ} n 0))
+    ∙ ap₂ ◌++◌ (ap₂ ◌++◌ (take-append_seam a (replicate n 0)) (take-length s)) (drop-append-add a (replicate n 0) (length s) ∙ drop_zeros (length s) n ∙ ap (λ (k : ℕ). replicate k 0) e)
 
 pub joined_by : (f c b1 b2 : List ℕ) → length f ≡ 40 → length c ≡ 16 → b1 ≡ copied f 0 (replicate 56 0) → b2 ≡ copied c 40 b1 → b2 ≡ f ++ c
 joined_by f c b1 b2 lf lc e1 e2 =
