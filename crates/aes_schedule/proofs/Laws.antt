@@ -1,5 +1,5 @@
 -- The schedule under two substitutions that agree on bytes. Assumes nothing.
-use mathlib.Core.Path.{◌≡◌, refl, ◌∙◌}
+use mathlib.Core.Path.{◌≡◌, refl, ap₂, ◌∙◌}
 use mathlib.Core.Bool.{Bool, true, false, cond}
 use mathlib.Core.List.{List}
 use Prim.Native.Nat.{ℕ, ◌+◌, ◌*◌, ◌≤◌, ◌<◌}
@@ -12,6 +12,9 @@ use Rattle.octets.proofs.Fill.{length_pad_to}
 use Rattle.aes_sbox.proofs.Laws.{entry_table}
 use Rattle.aes_expand.proofs.Laws.{length_expansion, expansion_same, expanded-over, over_zeros}
 use Rattle.aes_expand.specs.Expansion.{key_expansion, expanded_over}
+use Rattle.aes_schedule.specs.declared.Expanded.{Expanded}
+use Rattle.aes_schedule.specs.declared.KeyAnswer.{KeyAnswer}
+use Rattle.aes_schedule.specs.declared.KeySchedule.{KeySchedule}
 use Rattle.aes_schedule.specs.declared.KeySize.{KeySize}
 use Rattle.aes_schedule.specs.Schedule.{taken, refused, schedule_of, key_size, answer_of}
 
@@ -78,6 +81,10 @@ module _ (sub : ℕ → ℕ) (key : List ℕ) where
         same_answer = rw (p, q, r);
       }
       on false false false p q r = record { same_words = rw (p, q, r); same_rounds = rw (p, q, r); same_answer = rw (p, q, r) }
+
+-- an answer and a schedule as one value
+pub expanded : {x : Expanded} {a : KeyAnswer} {s : KeySchedule} → (a ≡ x.answer) × (s ≡ x.schedule) → ◌≡◌ {A = Expanded} (record { answer = a; schedule = s }) x
+expanded e = ap₂ (λ (a : KeyAnswer) (s : KeySchedule). record { answer = a; schedule = s }) e.0 e.1
 
 -- the words of every schedule are 60
 pub schedule_length : (sub : ℕ → ℕ) (key : List ℕ) → length (schedule_of sub key).schedule.words ≡ 60

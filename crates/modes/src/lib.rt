@@ -8,7 +8,7 @@ ghost use Rattle.modes_run.specs.Model.{run_over};
 ghost use Rattle.modes.specs.Calls.{mode_answer, mode_output, answer_with};
 
 use aes_schedule::KeySchedule;
-use aes_schedule_inverse::inverse_words;
+use aes_schedule_inverse::inverse_into;
 use modes_answer::{ModeAnswer, judge};
 use modes_spec::Operation;
 use octets_block::load;
@@ -33,10 +33,8 @@ pub fn apply(
     ensures answer { result ≡ answer_with (mode_answer operation key.now iv.now input.now output.old) operation key.now iv.now input.now }
     ensures written { output.new ≡ mode_output result.answer operation key.now iv.now input.now output.old }
 {
-    let made = KeySchedule::new(key);
-    let taken = made.answer;
-    let schedule = made.schedule;
-    let words = schedule.words;
+    let mut schedule = KeySchedule::none();
+    let taken = schedule.expand(key);
     let answer = judge(taken, operation, iv.len(), input.len(), output.len());
     let ModeAnswer::Done = answer else {
         return Applied {
@@ -57,12 +55,12 @@ fn under_schedule(
     input: &[u8],
     output: &mut [u8],
 ) -> [u8; 16]
-    ensures { (result, output.new) ≡ run_over (equivalent_cipher words.now (inverse_words schedule.now.words schedule.now.rounds) rounds) operation iv input.now output.old }
+    ensures { (result, output.new) ≡ run_over (equivalent_cipher schedule.now.words (inverse_words schedule.now.words schedule.now.rounds) schedule.now.rounds) operation iv input.now output.old }
 {
     if inverts(operation) {
-        let mut inverse = [0u32; 60];
-        inverse_words(schedule, &mut inverse);
-        return modes_run::run(&inverse, rounds, operation, iv, input, output);
+        let mut inverse = KeySchedule::none();
+        inverse_into(schedule, &mut inverse);
+        return modes_run::run(&inverse, operation, iv, input, output);
     }
     modes_run::run(schedule, operation, iv, input, output)
 }
@@ -71,13 +69,5 @@ fn under_schedule(
 fn inverts(operation: Operation) -> bool
     ensures { result ≡ standard.inverts operation }
 {
-    match operation {
-        Operation::EcbEncrypt => false,
-        Operation::EcbDecrypt => true,
-        Operation::CbcEncrypt => false,
-        Operation::CbcDecrypt => true,
-        Operation::CfbEncrypt => false,
-        Operation::CfbDecrypt => false,
-        Operation::Ofb => false,
-    }
+    matches!(operation, Operation::EcbDecrypt | Operation::CbcDecrypt)
 }

@@ -64,15 +64,7 @@ pub fn judge(
 pub fn any_length(operation: Operation) -> bool
     ensures { result ≡ any_length operation }
 {
-    match operation {
-        Operation::EcbEncrypt => false,
-        Operation::EcbDecrypt => false,
-        Operation::CbcEncrypt => false,
-        Operation::CbcDecrypt => false,
-        Operation::CfbEncrypt => false,
-        Operation::CfbDecrypt => false,
-        Operation::Ofb => true,
-    }
+    matches!(operation, Operation::Ofb)
 }
 
 // The bytes past whole pieces, which OFB alone takes.
@@ -90,12 +82,9 @@ fn wanted_iv(operation: Operation) -> usize
     ensures { result ≡ iv_length 16 operation }
 {
     match operation {
-        Operation::EcbEncrypt => 0,
-        Operation::EcbDecrypt => 0,
-        Operation::CbcEncrypt => 16,
-        Operation::CbcDecrypt => 16,
-        Operation::CfbEncrypt => 16,
-        Operation::CfbDecrypt => 16,
+        Operation::EcbEncrypt | Operation::EcbDecrypt => 0,
+        Operation::CbcEncrypt | Operation::CbcDecrypt => 16,
+        Operation::CfbEncrypt | Operation::CfbDecrypt => 16,
         Operation::Ofb => 16,
     }
 }

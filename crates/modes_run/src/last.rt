@@ -19,7 +19,7 @@ pub fn last_piece(
     requires { (length output.old ≡ length input.now) × (length input.now ≤ 16) }
     ensures { (result, output.new) ≡ ran_through 16 (machine (one_way schedule.now.words schedule.now.rounds) Ofb) chain input.now output.old }
 {
-    if input.len() == 0 {
+    if input.is_empty() {
         return chain;
     }
     let output_block = encrypt_block(schedule, chain);

@@ -13,7 +13,6 @@ use aes_schedule::KeySchedule;
 use modes_answer::any_length;
 use modes_spec::Operation;
 use modes_whole::whole_pieces;
-use octets_slice::smaller;
 
 // The pieces that input and output have in common: whole ones, and in OFB a short last one too.
 // The answer is what a piece after them is chained to.
@@ -26,11 +25,10 @@ pub fn run(
 ) -> [u8; 16]
     ensures { (result, output.new) ≡ run_over (one_way schedule.now.words schedule.now.rounds) operation iv input.now output.old }
 {
-    let end = smaller(input.len(), output.len());
+    let end = input.len().min(output.len());
     let chain = whole_pieces(schedule, operation, iv, input, output);
     if any_length(operation) {
-        let n = end / 16;
-        let at = n * 16;
+        let at = end / 16 * 16;
         return last_piece(schedule, chain, &input[at..end], &mut output[at..end]);
     }
     chain

@@ -14,7 +14,6 @@ use aes_schedule::KeySchedule;
 use modes_spec::Operation;
 use modes_step::step;
 use octets_block::{load, store, xor};
-use octets_slice::smaller;
 
 // The whole pieces that input and output both have. The answer is what a piece after them is chained to.
 pub fn whole_pieces(
@@ -26,18 +25,15 @@ pub fn whole_pieces(
 ) -> [u8; 16]
     ensures { (result, output.new) ≡ ran_whole (machine (one_way schedule.now.words schedule.now.rounds) operation) iv input.now output.old }
 {
-    let both = smaller(input.len(), output.len());
-    let n = both / 16;
+    let n = input.len().min(output.len()) / 16;
     if let Operation::CbcDecrypt = operation {
         return opened(schedule, iv, n, input, output);
     }
     let mut chain = iv;
     for i in 0..n {
         let s = step(schedule, operation, chain, load(input, i * 16));
-        let out = s.out;
-        let next = s.next;
-        store(output, i * 16, out);
-        chain = next;
+        store(output, i * 16, s.out);
+        chain = s.next;
     }
     chain
 }

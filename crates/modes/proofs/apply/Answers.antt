@@ -1,3 +1,4 @@
+use Rattle.aes_schedule.proofs.Laws.{expanded}
 use Rattle.modes.proofs.Calls.{refused_keeps, refused_zeros, same_applied, answered, written}
 use Rattle.octets.specs.Octets.{Bytes}
 use mathlib.Core.Path.{sym}
@@ -7,7 +8,7 @@ use Rattle.modes.proofs.apply.Goals as goal
 pub returns-in_default : goal.returns-in_default
 returns-in_default c =
     let a = c.args in
-    let e = answered a.operation a.key.now a.iv.now a.input.now a.output.now _ _ c.new-made.ensures c.judge-answer.ensures in record {
+    let e = answered a.operation a.key.now a.iv.now a.input.now a.output.now _ _ (expanded c.expand-taken.ensures) c.judge-answer.ensures in record {
       answer = same_applied _ _ _ a.operation a.key.now a.iv.now a.input.now e
           (sym (refused_zeros c.judge-answer.result a.operation a.key.now a.iv.now a.input.now c.in_default.not-Done));
       written = sym (refused_keeps c.judge-answer.result a.operation a.key.now a.iv.now a.input.now a.output.now c.in_default.not-Done);
@@ -18,7 +19,7 @@ returns c =
     let a = c.args in
     let bi : Bytes a.iv.now = λ i. omega (arith, c.type_inv.iv i) in
     let bs : Bytes a.input.now = λ i. omega (arith, c.type_inv.input i) in
-    let pe = c.new-made.ensures in
+    let pe = expanded c.expand-taken.ensures in
     let pr = c.judge-answer.ensures in
     let e = answered a.operation a.key.now a.iv.now a.input.now a.output.now _ _ pe pr in
     let w =

@@ -8,7 +8,7 @@ pub returns-then-any_length : goal.returns-then-any_length
 returns-then-any_length c =
     let a = c.args in
     run_all (one_way a.schedule.now.words a.schedule.now.rounds) a.operation a.iv a.input.now a.output.now _ _ c.whole_pieces-chain.ensures
-    (sym c.any_length.ensures ∙ c.if-any_length.true) _ c.smaller-end.ensures (search rules) _ _ c.last_piece.ensures
+    (sym c.any_length.ensures ∙ c.if-any_length.true) _ c.min-end.ensures (search rules) _ _ c.last_piece.ensures
 
 pub returns : goal.returns
 returns c =

@@ -18,16 +18,14 @@ use native.Mathlib.Omega.{arith}
 use Rattle.modes_whole.proofs.whole_pieces.Goals as goal
 
 pub opened-requires : goal.opened-requires
-opened-requires c =
-    let e = c.smaller-both.ensures in
-    (omega arith, omega arith)
+opened-requires c = (omega (arith, c.min-n.ensures), omega (arith, c.min-n.ensures))
 
 pub returns-in-CbcDecrypt : goal.returns-in-CbcDecrypt
 returns-in-CbcDecrypt c =
     let a = c.args in
     let e = one_way a.schedule.now.words a.schedule.now.rounds in
     c.opened.ensures
-    ∙ ap (λ (k : ℕ). ran 16 (machine e CbcDecrypt) a.iv (k / 16) a.input.now a.output.now) c.smaller-both.ensures
+    ∙ ap (λ (k : ℕ). ran 16 (machine e CbcDecrypt) a.iv (k / 16) a.input.now a.output.now) c.min-n.ensures
     ∙ ap (λ (v : Operation). ran_whole (machine e v) a.iv a.input.now a.output.now) (sym c.in-CbcDecrypt.is)
 
 pub loop-i-init : goal.loop-i-init
@@ -61,5 +59,5 @@ pub returns : goal.returns
 returns c =
     let l = c.loop-i in
     let a = c.args in
-    let e : l.i ≡ min (length a.input.now) (length a.output.now) / 16 = omega (arith, c.smaller-both.ensures) in
+    let e : l.i ≡ min (length a.input.now) (length a.output.now) / 16 = omega (arith, c.min-n.ensures) in
     rw (← e, l.invariant.3, l.invariant.4)

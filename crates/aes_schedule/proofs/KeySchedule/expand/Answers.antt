@@ -28,5 +28,5 @@ returns c = let key = c.args.key.now in
     ∙ ap₂ (λ (nk m : ℕ). expanded_over sub key nk m (replicate 60 0)) (ap (λ (z : KeySize). z.words) f) n
     ∙ k.same_words in (
       c.answer_of.ensures ∙ ap answer_of rounds ∙ k.same_answer ∙ ap (λ (s : Expanded). s.answer) e,
-      ap₂ (λ (w : List ℕ) (nr : ℕ). record { words = w; rounds = nr }) words rounds ∙ ap (λ (s : Expanded). s.schedule) e,
+      ap₂ {C = KeySchedule} (λ (w : List ℕ) (nr : ℕ). record { words = w; rounds = nr }) words rounds ∙ ap (λ (s : Expanded). s.schedule) e,
     )

@@ -7,8 +7,8 @@ use Rattle.modes_run.proofs.Runs.{rest_none, rest_one}
 use borrow.Author.Rules.{rules}
 use Rattle.modes_run.proofs.last.last_piece.Goals as goal
 
-pub returns-then-input-eq0 : goal.returns-then-input-eq0
-returns-then-input-eq0 c =
+pub returns-then-is_empty : goal.returns-then-is_empty
+returns-then-is_empty c =
     let a = c.args in
     rest_none (machine (one_way a.schedule.now.words a.schedule.now.rounds) Ofb) a.chain a.input.now a.output.now (search rules)
 
