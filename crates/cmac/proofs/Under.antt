@@ -9,7 +9,7 @@ use Rattle.aes_spec.specs.Cipher.{standard}
 use Rattle.cmac_spec.specs.Cmac.{cmac}
 use Rattle.cmac_run.specs.Running.{fed, closed}
 use Rattle.cmac_run.specs.declared.Run.{Run}
-use Rattle.cmac.specs.Calls.{check_of, run_of, record_of, fed_with, close_of}
+use Rattle.cmac.specs.Calls.{check_of, record_of, fed_with, close_of}
 use Rattle.cmac.specs.declared.Record.{Record}
 use Rattle.cmac.specs.declared.Checked.{Checked}
 
@@ -19,10 +19,10 @@ unfolding check_of
 check_under key m e r pe pr = rw (pr, pe)
 
 module _ (x : Record) where
-  pub fed_under : (part : List ℕ) (n : Run) → n ≡ fed (standard x.words x.rounds) (run_of x) part → record_of x.words x.rounds n ≡ fed_with x part
+  pub fed_under : (part : List ℕ) (n : Run) → n ≡ fed (standard x.schedule.words x.schedule.rounds) x.run part → record_of x.schedule n ≡ fed_with x part
   unfolding fed_with
   fed_under part n pn = rw pn
 
-  pub close_under : (r : List ℕ) → r ≡ closed (standard x.words x.rounds) (run_of x) → r ≡ close_of x
+  pub close_under : (r : List ℕ) → r ≡ closed (standard x.schedule.words x.schedule.rounds) x.run → r ≡ close_of x
   unfolding close_of
   close_under r pr = pr

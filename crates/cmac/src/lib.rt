@@ -9,6 +9,7 @@ ghost use Rattle.cmac.specs.Calls as calls;
 
 use aes_schedule::{KeyAnswer, KeySchedule};
 use cmac_run::Run;
+use cmac_subkeys::Subkeys;
 
 // The answer for the key, and the check: zeros if the key was refused.
 #[derive(Clone, Copy)]
@@ -17,15 +18,12 @@ pub struct Checked {
     pub check: [u8; 16],
 }
 
-// A running check: the schedule of its key, the value of the chain, and the bytes that are not in the chain yet, of which there are up to 16.
+// A running check: the schedule of its key, and what was fed under it.
 #[repr(C)]
 #[derive(Clone, Copy)]
 pub struct Record {
-    pub words: [u32; 60],
-    pub rounds: usize,
-    pub chain: [u8; 16],
-    pub held: [u8; 16],
-    pub count: usize,
+    pub schedule: KeySchedule,
+    pub run: Run,
 }
 
 // The answer for the key, and the record: zeros if the key was refused.
@@ -39,24 +37,24 @@ pub fn check(key: &[u8], message: &[u8]) -> Checked
     ensures { result ≡ calls.check_of key.now message.now }
 {
     let made = KeySchedule::new(key);
-    let answer = made.answer;
-    let schedule = made.schedule;
-    let words = schedule.words;
-    let mac = check_with(&schedule, message);
-    Checked { answer, check: mac }
+    let check = check_with(&made.schedule, message);
+    Checked {
+        answer: made.answer,
+        check,
+    }
 }
 
 pub fn start(key: &[u8]) -> Started
     ensures { result ≡ calls.start_of key.now }
 {
     let made = KeySchedule::new(key);
-    let answer = made.answer;
-    let schedule = made.schedule;
-    let words = schedule.words;
-    let run = Run::new();
+    let record = Record {
+        schedule: made.schedule,
+        run: Run::new(),
+    };
     Started {
-        answer,
-        record: record_of(words, schedule.rounds, run),
+        answer: made.answer,
+        record,
     }
 }
 
@@ -64,18 +62,15 @@ pub fn start(key: &[u8]) -> Started
 pub fn fed_with(record: Record, part: &[u8]) -> Record
     ensures { result ≡ calls.fed_with «record» part.now }
 {
-    let words = record.words;
-    let run = run_of(record).fed(&words, record.rounds, part);
-    record_of(words, record.rounds, run)
+    let run = record.run.fed(&record.schedule, part);
+    Record { run, ..record }
 }
 
 // The check of everything fed so far. The record does not change and can be fed more.
 pub fn close(record: Record) -> [u8; 16]
     ensures { result ≡ calls.close_of «record» }
 {
-    let run = run_of(record);
-    let rounds = record.rounds;
-    close_run(&record.schedule, run)
+    close_run(&record.schedule, record.run)
 }
 
 // The check under a lent schedule, for callers that make many checks.
@@ -90,32 +85,5 @@ pub fn check_with(schedule: &KeySchedule, message: &[u8]) -> [u8; 16]
 fn close_run(schedule: &KeySchedule, run: Run) -> [u8; 16]
     ensures { result ≡ running.closed (standard schedule.now.words schedule.now.rounds) run }
 {
-    let key1 = cmac_subkeys::key1(schedule);
-    let key2 = cmac_subkeys::key2(key1);
-    run.closed(schedule, &key1, &key2)
-}
-
-fn run_of(record: Record) -> Run
-    ensures { result ≡ calls.run_of «record» }
-{
-    let chain = record.chain;
-    let held = record.held;
-    Run {
-        chain,
-        held,
-        count: record.count,
-    }
-}
-
-fn record_of(words: [u32; 60], rounds: usize, run: Run) -> Record
-    ensures { result ≡ calls.record_of words rounds run }
-{
-    let chain = run.chain;
-    let held = run.held;
-    Record {
-        schedule,
-        chain,
-        held,
-        count: run.count,
-    }
+    run.closed(schedule, &Subkeys::new(schedule))
 }

@@ -8,10 +8,11 @@ ghost use Rattle.cmac_run.specs.Running as running;
 use aes_rounds::encrypt_block;
 use aes_schedule::KeySchedule;
 use cmac_chain::chained;
-use cmac_subkeys::{last, piece_filled};
+use cmac_subkeys::{Subkeys, piece_filled};
 use octets_block::xor;
 
 // The value of the chain, and the bytes that are not in it yet, of which there are up to 16.
+#[repr(C)]
 #[derive(Clone, Copy)]
 pub struct Run {
     pub chain: [u8; 16],
@@ -24,8 +25,8 @@ impl Run {
         ensures { result ≡ running.begun }
     {
         Run {
-            chain: [0u8; 16],
-            held: [0u8; 16],
+            chain: [0; 16],
+            held: [0; 16],
             count: 0,
         }
     }
@@ -34,34 +35,27 @@ impl Run {
     pub fn fed(self, schedule: &KeySchedule, part: &[u8]) -> Run
         ensures { result ≡ running.fed (standard schedule.now.words schedule.now.rounds) self part.now }
     {
-        let chain = self.chain;
-        let held = self.held;
-        let room = room_after(self.count);
-        let piece = piece_filled(held, self.count, part);
+        // There is none if the count is past 16.
+        let room = 16usize.saturating_sub(self.count);
+        let piece = piece_filled(self.held, self.count, part);
         if part.len() <= room {
-            return Run {
-                chain,
+            Run {
                 held: piece,
                 count: 16 - room + part.len(),
-            };
+                ..self
+            }
+        } else {
+            let next = encrypt_block(schedule, xor(self.chain, piece));
+            run_from(schedule, next, &part[room..])
         }
-        let next = encrypt_block(schedule, xor(chain, piece));
-        run_from(schedule, next, &part[room..])
     }
 
     // The check of everything fed, with the subkeys lent: a caller that makes many checks makes the subkeys once.
-    pub fn closed(
-        self,
-        schedule: &KeySchedule,
-        key1: &[u8; 16],
-        key2: &[u8; 16],
-    ) -> [u8; 16]
-        ensures { result ≡ running.closed_by (standard schedule.now.words schedule.now.rounds) key1.now key2.now self }
+    pub fn closed(self, schedule: &KeySchedule, subkeys: &Subkeys) -> [u8; 16]
+        ensures { result ≡ running.closed_by (standard schedule.now.words schedule.now.rounds) subkeys.now.key1 subkeys.now.key2 self }
     {
-        let chain = self.chain;
-        let held = self.held;
-        let end = last(key1, key2, held, self.count);
-        encrypt_block(schedule, xor(chain, end))
+        let end = subkeys.last(self.held, self.count);
+        encrypt_block(schedule, xor(self.chain, end))
     }
 }
 
@@ -69,34 +63,12 @@ impl Run {
 fn run_from(schedule: &KeySchedule, chain: [u8; 16], part: &[u8]) -> Run
     ensures { result ≡ running.run_from (standard schedule.now.words schedule.now.rounds) chain part.now }
 {
-    let n = before_last(part.len());
-    let at = n * 16;
-    let after = chained(schedule, chain, &part[0..at]);
+    // A full piece at the end is the last, so it stays out of the chain.
+    let at = part.len().saturating_sub(1) / 16 * 16;
     let rest = &part[at..];
-    let held = piece_filled([0u8; 16], 0, rest);
     Run {
-        chain: after,
-        held,
+        chain: chained(schedule, chain, &part[..at]),
+        held: piece_filled([0; 16], 0, rest),
         count: rest.len(),
     }
-}
-
-// How many bytes a run has room for; none if its count is past 16.
-fn room_after(count: usize) -> usize
-    ensures { result ≡ 16 - count }
-{
-    if count < 16 {
-        return 16 - count;
-    }
-    0
-}
-
-// How many pieces of a message of this length come before its last one.
-fn before_last(length: usize) -> usize
-    ensures { result ≡ (length - 1) / 16 }
-{
-    if length == 0 {
-        return 0;
-    }
-    (length - 1) / 16
 }

@@ -7,6 +7,7 @@ ghost use Rattle.std.specs.Prelude.{cond, ◌≡◌, ◌++◌, ◌-◌, get_or, 
 ghost use Rattle.octets.specs.Octets.{pad_to};
 ghost use Rattle.aes_spec.specs.Cipher.{standard};
 ghost use Rattle.cmac_spec.specs.Cmac as spec;
+ghost use Rattle.cmac_subkeys.specs.Keys.{subkeys_of};
 
 use crate::doubling::doubled;
 use aes_rounds::encrypt_block;
@@ -24,28 +25,34 @@ pub fn piece_filled(held: [u8; 16], count: usize, part: &[u8]) -> [u8; 16]
     piece
 }
 
-// K1.
-pub fn key1(schedule: &KeySchedule) -> [u8; 16]
-    ensures { result ≡ spec.key1 (standard schedule.now.words schedule.now.rounds) }
-{
-    doubled(encrypt_block(schedule, [0u8; 16]))
+// K1 and K2.
+#[derive(Clone, Copy)]
+pub struct Subkeys {
+    pub key1: [u8; 16],
+    pub key2: [u8; 16],
 }
 
-// K2, from K1.
-pub fn key2(key1: [u8; 16]) -> [u8; 16]
-    ensures { result ≡ spec.doubled key1 }
-{
-    doubled(key1)
-}
-
-// The last piece, of which this many bytes are held: a full one with K1, a shorter one padded and with K2.
-pub fn last(key1: &[u8; 16], key2: &[u8; 16], held: [u8; 16], count: usize) -> [u8; 16]
-    ensures { result ≡ spec.last_by key1.now key2.now (take count held) }
-{
-    if count < 16 {
-        return xor(*key2, piece_filled(held, count, b"\x80"));
+impl Subkeys {
+    pub fn new(schedule: &KeySchedule) -> Subkeys
+        ensures { result ≡ subkeys_of (standard schedule.now.words schedule.now.rounds) }
+    {
+        let key1 = doubled(encrypt_block(schedule, [0; 16]));
+        Subkeys {
+            key1,
+            key2: doubled(key1),
+        }
     }
-    xor(*key1, held)
+
+    // The last piece, of which this many bytes are held: a full one with K1, a shorter one padded and with K2.
+    pub fn last(&self, held: [u8; 16], count: usize) -> [u8; 16]
+        ensures { result ≡ spec.last_by self.now.key1 self.now.key2 (take count held) }
+    {
+        if count < 16 {
+            xor(self.key2, piece_filled(held, count, b"\x80"))
+        } else {
+            xor(self.key1, held)
+        }
+    }
 }
 
 fn byte_of(held: u8, count: usize, part: &[u8], i: usize) -> u8

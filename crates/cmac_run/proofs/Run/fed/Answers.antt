@@ -11,12 +11,12 @@ pub returns-then-part-room : goal.returns-then-part-room
 returns-then-part-room c =
     let x = c.args.self in
     let size : length x.held ≡ 16 = search rules in
-    rw (c.piece_filled-piece.ensures, c.room_after-room.ensures)
+    rw (c.piece_filled-piece.ensures, c.saturating_sub-room.ensures)
     (fed_room x.held size (standard c.args.schedule.now.words c.args.schedule.now.rounds) x.chain x.count c.args.part.now (search rules))
 
-pub returns : goal.returns
-returns c =
+pub returns-else-part-room : goal.returns-else-part-room
+returns-else-part-room c =
     let x = c.args.self in
     let size : length x.held ≡ 16 = search rules in
-    c.run_from.ensures ∙ rw (c.encrypt_block-next.ensures, c.xor.ensures, c.piece_filled-piece.ensures, c.room_after-room.ensures, to_end c.args.part.now (16 - x.count))
+    c.run_from.ensures ∙ rw (c.encrypt_block-next.ensures, c.xor.ensures, c.piece_filled-piece.ensures, c.saturating_sub-room.ensures, to_end c.args.part.now (16 - x.count))
     (fed_over x.held size (standard c.args.schedule.now.words c.args.schedule.now.rounds) x.chain x.count c.args.part.now (search rules))
