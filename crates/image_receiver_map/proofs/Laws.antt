@@ -1,20 +1,19 @@
 -- Laws of bits in a map. Assumes nothing.
 use mathlib.Core.Path.{◌≡◌, refl, sym, ap, ap₂, ◌∙◌}
-use mathlib.Core.Bool.{Bool, true, false, cond}
+use mathlib.Core.Bool.{Bool, true, false, cond, not}
 use mathlib.Core.List.{List, [], ◌∷◌, ◌++◌}
-use mathlib.Core.Logic.{◌⊎◌, inl, inr, ⊎_elim}
+use mathlib.Core.Logic.{⊎_elim}
 use Prim.Native.Nat.{ℕ, zero, suc, ◌+◌, ◌/◌, ◌%◌, ◌≤◌, ◌<◌, min}
 use native.Mathlib.Nat.{eq-or-lt_of_le, zero-div}
 use native.Mathlib.Omega.{arith}
-use borrow.Author.Tests.{eqb-true, eqb-false, eq-eqb, ne_eqb, ltb-true}
+use Rattle.std.specs.Int.Bits.{bit_and, bit_or}
+use borrow.Author.Tests.{eqb-true, eqb-false, eq-eqb, ne_eqb, le-ltb}
 use lib.Dec.{T, eqb, ltb, eqb→eq, ltb→lt}
-use lib.ListN.{length, get_or, set, drop, replicate, length-set, length-replicate, get_or-replicate, get_or-append, get_or-eq_default}
-use lib.Seq.{get_or-set_same, get_or-set_other, set-set, set_comm, set_out}
+use lib.ListN.{length, get_or, set, drop, replicate, length-replicate, get_or-replicate, get_or-append, get_or-eq_default}
+use lib.Seq.{get_or-set_same, get_or-set_other, set_out}
 use Rattle.octets.specs.Octets.{Bytes}
 use Rattle.octets.proofs.Tests.{all, below}
-use Rattle.octets.proofs.Xor.{lt_or_le}
-use Rattle.octets.proofs.Arms.{NoneFrom}
-use Rattle.image_receiver_map.specs.Map.{map_size, worth, bit_of, with_bit, bit, bit_put, cleared, bits_below}
+use Rattle.image_receiver_map.specs.Map.{map_size, worth, bit_of, with_bit, bit, bit_at, bit_put, cleared, bits_below}
 
 -- ---- one byte: computed once for every byte and every two bits
 
@@ -165,53 +164,43 @@ unfolding bits_below
 bits_none m c zero l h = refl
 bits_none m c (suc k) l h = omega (arith, bits_none m c k (omega arith) h, none m c k (omega arith) h)
 
--- ---- for the code
+-- ---- for the code: a bit is looked at and set by a byte that has it alone
 
-pub worth_high : (k : ℕ) → 7 ≤ k → worth k ≡ 128
-worth_high zero h = absurd (omega arith)
-worth_high (suc zero) h = absurd (omega arith)
-worth_high (suc (suc zero)) h = absurd (omega arith)
-worth_high (suc (suc (suc zero))) h = absurd (omega arith)
-worth_high (suc (suc (suc (suc zero)))) h = absurd (omega arith)
-worth_high (suc (suc (suc (suc (suc zero))))) h = absurd (omega arith)
-worth_high (suc (suc (suc (suc (suc (suc zero)))))) h = absurd (omega arith)
-worth_high (suc (suc (suc (suc (suc (suc (suc k))))))) h = refl
+and_test : ℕ → ℕ → Bool
+and_test b k = eqb (cond (eqb (bit_and b (worth k)) 0) 0 1) (bit_of b k)
 
-past : (k x : ℕ) → NoneFrom 0 k x → k ≤ x
-past zero x h = omega arith
-past (suc k) x h = omega (arith, past k x h.0, h.1)
+and_all : T (all 256 (λ b. all 8 (and_test b)))
+unfolding and_test bit_of
+and_all = tt
 
-pub worth_last : (k : ℕ) → NoneFrom 0 7 k → worth k ≡ 128
-worth_last k h = worth_high k (past 7 k h)
+or_test : ℕ → ℕ → Bool
+or_test b k = eqb (bit_or b (worth k)) (with_bit b k)
 
-pub bit_past : (m : List ℕ) (n : ℕ) → length m ≤ n / 8 → false ≡ eqb (bit m n) 1
+or_all : T (all 256 (λ b. all 8 (or_test b)))
+unfolding or_test bit_of with_bit
+or_all = tt
+
+bit_and_is : (b k : ℕ) → b < 256 → k < 8 → cond (eqb (bit_and b (worth k)) 0) 0 1 ≡ bit_of b k
+unfolding and_test
+bit_and_is b k hb hk = eqb→eq _ _ (below 8 (and_test b) (below 256 (λ b. all 8 (and_test b)) and_all b hb) k hk)
+
+pub is_set : (m : List ℕ) (n w : ℕ) → Bytes m → w ≡ worth (n % 8) → not (eqb (bit_and (get_or m (n / 8) 0) w) 0) ≡ bit_at m n
 unfolding bit
-bit_past m n h = rw (get_or-eq_default m 0 {n = n / 8} h, zero_bit (n % 8))
-
-pub with_set : (b k : ℕ) → eqb (bit_of b k) 1 ≡ true → b ≡ with_bit b k
-unfolding with_bit
-with_set b k e = rw e
-
-pub with_clear : (b k : ℕ) → eqb (bit_of b k) 1 ≡ false → b + worth k ≡ with_bit b k
-unfolding with_bit
-with_clear b k e = rw e
-
--- a bit that is not set fits
-pub room_for : (b k : ℕ) → b < 256 → eqb (bit_of b k) 1 ≡ false → b + worth k < 256
-unfolding bit_of
-room_for b k h e = go (lt_or_le k 7)
+is_set m n w b e =
+    rw (e, ← bit_and_is (get_or m (n / 8) 0) (n % 8) (b (n / 8)) (omega arith)) (either (eqb (bit_and (get_or m (n / 8) 0) (worth (n % 8))) 0))
   where
-    go : (k < 7) ⊎ (7 ≤ k) → b + worth k < 256
-    go (inl l) = rw (with_clear b k e) (with_small b k h (omega arith))
-    go (inr l) =
-        let w = worth_high k l in
-        rw w (high (rw w at (eqb-false (bit_of b k) 1 e)))
-      where
-        high : (b / 128 % 2 ≡ 1 → ⊥) → b + 128 < 256
-        high n = omega arith
+    either : (t : Bool) → not t ≡ eqb (cond t 0 1) 1
+    either true = refl
+    either false = refl
 
--- one more byte cleared
-pub cleared_more : (m : List ℕ) (i : ℕ) → i < length m → set (replicate i 0 ++ drop i m) i 0 ≡ replicate (i + 1) 0 ++ drop (i + 1) m
-cleared_more [] i h = absurd (omega arith)
-cleared_more (x ∷ m) zero h = refl
-cleared_more (x ∷ m) (suc i) h = let e : suc i + 1 ≡ suc (i + 1) = omega arith in rw e (ap (0 ∷◌) (cleared_more m i (omega arith)))
+pub is_put : (m : List ℕ) (n w : ℕ) → Bytes m → w ≡ worth (n % 8) → set m (n / 8) (bit_or (get_or m (n / 8) 0) w) ≡ bit_put m n
+unfolding bit_put or_test
+is_put m n w b e = rw e (ap (set m (n / 8)) (eqb→eq _ _ (below 8 (or_test (get_or m (n / 8) 0)) (below 256 (λ b. all 8 (or_test b)) or_all (get_or m (n / 8) 0) (b (n / 8))) (n % 8) (omega arith))))
+
+pub past_set : (m : List ℕ) (n : ℕ) → length m ≤ n / 8 → ltb (n / 8) (length m) ≡ bit_at m n
+unfolding bit
+past_set m n h = rw (le-ltb (n / 8) (length m) h, get_or-eq_default m 0 {n = n / 8} h, zero_bit (n % 8))
+
+pub past_put : (m : List ℕ) (n : ℕ) → length m ≤ n / 8 → m ≡ bit_put m n
+unfolding bit_put
+past_put m n h = sym (set_out m (n / 8) (with_bit (get_or m (n / 8) 0) (n % 8)) h)
