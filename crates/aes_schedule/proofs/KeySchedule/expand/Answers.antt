@@ -7,6 +7,7 @@ use Rattle.octets.specs.Octets.{entry}
 use Rattle.aes_sbox.specs.Sbox.{s_box}
 use Rattle.aes_expand.specs.Expansion.{expanded_over}
 use Rattle.aes_schedule.specs.declared.Expanded.{Expanded}
+use Rattle.aes_schedule.specs.declared.KeySchedule.{KeySchedule}
 use Rattle.aes_schedule.specs.declared.KeySize.{KeySize}
 use Rattle.aes_schedule.specs.Schedule.{schedule_of, key_size, answer_of}
 use Rattle.aes_schedule.proofs.Laws.{schedule_table, rounds_lt, put_schedule}
