@@ -2,6 +2,7 @@
 -- A part of a line that is handed out is determined by what it holds. Assumes nothing.
 use mathlib.Core.Path.{◌≡◌, refl, sym, ◌∙◌, subst}
 use mathlib.Core.Bool.{Bool, true, false, cond, ◌&&◌, true≢false}
+use Rattle.std.specs.Prelude.{Option, Some, None}
 use mathlib.Core.List.{List, []}
 use Prim.Native.Nat.{ℕ, ◌+◌, ◌-◌, ◌≤◌, ◌<◌}
 use native.Mathlib.Omega.{arith}
@@ -11,7 +12,6 @@ use Rattle.octets_slice.specs.Slices.{copied}
 use Rattle.text_put.specs.Places.{fits}
 use Rattle.text_hex.specs.Written.{hex_word}
 use Rattle.text_hex.specs.Hex.{is_bytes, unhex, bytes_of, decode_answer}
-use Rattle.text_hex.specs.declared.Decoded.TheVariants.{End, Bad}
 use Rattle.text_words.proofs.find.Reads as find
 use Rattle.text_words.proofs.count.Reads as count
 use Rattle.text_words.proofs.word.Reads as word
@@ -21,10 +21,7 @@ use Rattle.text_put.proofs.put.Reads as put
 use Rattle.text_hex.proofs.put_hex.Reads as put_hex
 use borrow.Author.Tests.{ltb-true, ltb-false, lt-ltb, leb-true, leb-false, le-leb}
 use lib.Dec.{ltb, leb}
-use Rattle.text_hex.specs.declared.Decoded.{Decoded}
 use Rattle.text_decimal.specs.Numbers.{all_decimal, value_from, number_of}
-use Rattle.text_decimal.specs.declared.Number.{Number}
-use Rattle.text_decimal.specs.declared.Number.TheVariants.{Is, Not}
 
 pub find_asks_nothing : (κs : _) (a : _) → find.Asked κs a
 find_asks_nothing κs a = tt
@@ -85,32 +82,32 @@ empty : (out : List ℕ) (at : ℕ) (b : Bool) → cond b (paste out at [] 0) ou
 empty out at true = sym (paste-zero out at [])
 empty out at false = refl
 
-bad : (w out : List ℕ) (at : ℕ) → decode_answer w out at ≡ Bad → copied (bytes_of w) at out ≡ out
+bad : (w out : List ℕ) (at : ℕ) → decode_answer w out at ≡ None → copied (bytes_of w) at out ≡ out
 unfolding decode_answer bytes_of fits copied
 bad w out at = each (is_bytes w) (fits (unhex w) out at) refl
   where
     each : (a b : Bool) → fits (unhex w) out at ≡ b
-        → cond (a && fits (cond a (unhex w) []) out at) (End (at + length (cond a (unhex w) []))) Bad ≡ Bad
+        → cond (a && fits (cond a (unhex w) []) out at) (Some (at + length (cond a (unhex w) []))) None ≡ None
         → cond (fits (cond a (unhex w) []) out at) (paste out at (cond a (unhex w) []) (length (cond a (unhex w) []))) out ≡ out
     each true true e h = absurd (let z : ◌≡◌ {A = ℕ} 0 1 = cc in omega arith)
     each true false e h = rw e
     each false b e h = empty out at (fits [] out at)
 
-pub decode_refused_keeps : (κs : _) (a : _) (r : _) (s : _) → decode.Post κs a r s → r ≡ Bad → s.1.0.now ≡ a.1.0.now
+pub decode_refused_keeps : (κs : _) (a : _) (r : _) (s : _) → decode.Post κs a r s → r ≡ None → s.1.0.now ≡ a.1.0.now
 decode_refused_keeps κs a r s p e = p.1 ∙ bad _ _ _ (sym p.0 ∙ e)
 
 -- ---- words of hex and of decimal digits
 
 -- where a word was put, or that it stands for no bytes or has no room
-abbrev pub DecodeSays : (word out : List ℕ) (at : ℕ) → Decoded → Type 0
-DecodeSays word out at (End place) = (is_bytes word ≡ true) × (at + length (bytes_of word) ≤ length out) × (place ≡ at + length (bytes_of word))
-DecodeSays word out at Bad = is_bytes word ≡ true → at + length (bytes_of word) ≤ length out → ⊥
+abbrev pub DecodeSays : (word out : List ℕ) (at : ℕ) → Option ℕ → Type 0
+DecodeSays word out at (Some place) = (is_bytes word ≡ true) × (at + length (bytes_of word) ≤ length out) × (place ≡ at + length (bytes_of word))
+DecodeSays word out at None = is_bytes word ≡ true → at + length (bytes_of word) ≤ length out → ⊥
 
 decoded : (word out : List ℕ) (at : ℕ) → DecodeSays word out at (decode_answer word out at)
 unfolding decode_answer fits
 decoded word out at = go (is_bytes word) (leb (at + length (bytes_of word)) (length out)) refl refl
   where
-    go : (a b : Bool) → is_bytes word ≡ a → leb (at + length (bytes_of word)) (length out) ≡ b → DecodeSays word out at (cond (a && b) (End (at + length (bytes_of word))) Bad)
+    go : (a b : Bool) → is_bytes word ≡ a → leb (at + length (bytes_of word)) (length out) ≡ b → DecodeSays word out at (cond (a && b) (Some (at + length (bytes_of word))) None)
     go true true e f = (e, leb-true _ _ f, refl)
     go true false e f = λ x h. omega (arith, leb-false (at + length (bytes_of word)) (length out) f)
     go false b e f = λ x h. true≢false (sym x ∙ e)
@@ -119,20 +116,20 @@ pub decode_as_told : (κs : _) (a : _) (r : _) (s : _) → decode.Post κs a r s
 decode_as_told κs a r s p = subst (DecodeSays a.0.now a.1.0.now a.1.1.0) (sym p.0) (decoded a.0.now a.1.0.now a.1.1.0)
 
 pub decode_done : (κs : _) (a : _) (r : _) (s : _) → decode.Post κs a r s → is_bytes a.0.now ≡ true → a.1.1.0 + length (bytes_of a.0.now) ≤ length a.1.0.now
-    → r ≡ End (a.1.1.0 + length (bytes_of a.0.now))
+    → r ≡ Some (a.1.1.0 + length (bytes_of a.0.now))
 unfolding decode_answer fits
 decode_done κs a r s p b h = p.0 ∙ rw (b, le-leb (a.1.1.0 + length (bytes_of a.0.now)) (length a.1.0.now) h)
 
 -- which number a word is, or that it is empty, has another byte than a digit, or is more than the most asked for
-abbrev pub DecimalSays : (word : List ℕ) (most : ℕ) → Number → Type 0
-DecimalSays word most (Is v) = (0 < length word) × (all_decimal word ≡ true) × (value_from 0 word ≤ most) × (v ≡ value_from 0 word)
-DecimalSays word most Not = 0 < length word → all_decimal word ≡ true → value_from 0 word ≤ most → ⊥
+abbrev pub DecimalSays : (word : List ℕ) (most : ℕ) → Option ℕ → Type 0
+DecimalSays word most (Some v) = (0 < length word) × (all_decimal word ≡ true) × (value_from 0 word ≤ most) × (v ≡ value_from 0 word)
+DecimalSays word most None = 0 < length word → all_decimal word ≡ true → value_from 0 word ≤ most → ⊥
 
 numbered : (word : List ℕ) (most : ℕ) → DecimalSays word most (number_of word most)
 unfolding number_of
 numbered word most = go (ltb 0 (length word)) (all_decimal word) (leb (value_from 0 word) most) refl refl refl
   where
-    go : (a b c : Bool) → ltb 0 (length word) ≡ a → all_decimal word ≡ b → leb (value_from 0 word) most ≡ c → DecimalSays word most (cond (a && (b && c)) (Is (value_from 0 word)) Not)
+    go : (a b c : Bool) → ltb 0 (length word) ≡ a → all_decimal word ≡ b → leb (value_from 0 word) most ≡ c → DecimalSays word most (cond (a && (b && c)) (Some (value_from 0 word)) None)
     go true true true e f g = (ltb-true _ _ e, f, leb-true _ _ g, refl)
     go true true false e f g = λ l d h. omega (arith, leb-false (value_from 0 word) most g)
     go true false c e f g = λ l d h. true≢false (sym d ∙ f)
@@ -142,6 +139,6 @@ pub decimal_as_told : (κs : _) (a : _) (r : _) (s : _) → decimal.Post κs a r
 decimal_as_told κs a r s p = subst (DecimalSays a.0.now a.1.0) (sym p) (numbered a.0.now a.1.0)
 
 pub decimal_done : (κs : _) (a : _) (r : _) (s : _) → decimal.Post κs a r s → 0 < length a.0.now → all_decimal a.0.now ≡ true → value_from 0 a.0.now ≤ a.1.0
-    → r ≡ Is (value_from 0 a.0.now)
+    → r ≡ Some (value_from 0 a.0.now)
 unfolding number_of
 decimal_done κs a r s p l d h = p ∙ rw (lt-ltb 0 (length a.0.now) l, d, le-leb (value_from 0 a.0.now) a.1.0 h)

@@ -6,9 +6,7 @@ use native.Mathlib.Omega.{arith}
 use lib.ListN.{length, get_or, set}
 use lib.Seq.{paste}
 use Rattle.text_hex.specs.Written.{char_of, hex_of, hex_word}
-use Rattle.text_put.specs.Places.{place_after}
-use Rattle.octets_slice.specs.Slices.{copied}
-use Rattle.text_put.proofs.PlaceLaws.{put_more, placed_yes}
+use Rattle.text_put.proofs.PlaceLaws.{put_more}
 
 pub length_hex_of : (s : List ℕ) → length (hex_of s) ≡ 2 * length s
 unfolding hex_of
@@ -53,12 +51,4 @@ unfolding hex_word
 word_some [] h = let y : ⊥ = h refl in let z : ◌≡◌ {A = ℕ} 0 1 = omega arith in cc
 word_some (b ∷ r) h = refl
 
-pub length_word : (s : List ℕ) → (length s ≡ 0 → ⊥) → length (hex_word s) ≡ 2 * length s
-length_word s h = rw (word_some s h) (length_hex_of s)
-
--- hex put where it fits
-pub hex_placed : (s out : List ℕ) (at : ℕ) → (length s ≡ 0 → ⊥) → at + 2 * length s ≤ length out → (at + 2 * length s ≡ place_after (hex_word s) out at) × (paste out at (hex_of s) (2 * length s) ≡ copied (hex_word s) at out)
-hex_placed s out at h f =
-    let l = length_hex_of s in
-    let p = placed_yes (hex_of s) out at (omega arith) in
-    rw (word_some s h) (rw l at p.0, rw l at p.1)
+pub ruleset written = (word_none, word_some, length_hex_of)

@@ -1,8 +1,6 @@
 -- Words of hex digits read as bytes, in upper and lower case. Assumes nothing: these are definitions.
-use Rattle.std.specs.Prelude.{ℕ, ◌+◌, ◌*◌, ◌%◌, ◌-◌, Bool, true, cond, ◌&&◌, ◌||◌, List, [], ◌∷◌, length, get_or, eqb, ltb, leb}
+use Rattle.std.specs.Prelude.{ℕ, ◌+◌, ◌*◌, ◌%◌, ◌-◌, Bool, true, cond, ◌&&◌, ◌||◌, Option, Some, None, List, [], ◌∷◌, length, get_or, eqb, ltb, leb}
 use Rattle.text_put.specs.Places.{fits}
-use Rattle.text_hex.specs.declared.Decoded.{Decoded}
-use Rattle.text_hex.specs.declared.Decoded.TheVariants.{End, Bad}
 
 -- the value of a digit, 0 to 9, A to F or a to f, and 16 for any other byte
 unfoldable pub digit_of : ℕ → ℕ
@@ -40,5 +38,5 @@ unfoldable pub bytes_of : List ℕ → List ℕ
 bytes_of w = cond (is_bytes w) (unhex w) []
 
 -- what decoding a word into memory at a place answers
-unfoldable pub decode_answer : List ℕ → List ℕ → ℕ → Decoded
-decode_answer w out at = cond (is_bytes w && fits (bytes_of w) out at) (End (at + length (bytes_of w))) Bad
+unfoldable pub decode_answer : List ℕ → List ℕ → ℕ → Option ℕ
+decode_answer w out at = cond (is_bytes w && fits (bytes_of w) out at) (Some (at + length (bytes_of w))) None

@@ -3,135 +3,99 @@
 
 mod spelling;
 
-ghost use Rattle.std.specs.Prelude.{◌≡◌, true, ◌+◌, ◌*◌, ◌≤◌, ◌<◌, length};
+ghost use Rattle.std.specs.Prelude.{◌≡◌, true, ◌+◌, ◌*◌, ◌≤◌, ◌<◌, ◌/◌, length, cond, ltb};
 ghost use Rattle.std.proofs.Math.Seq.{paste};
 ghost use Rattle.octets_slice.specs.Slices.{copied};
 ghost use Rattle.text_put.specs.Places.{place_after};
 ghost use Rattle.text_hex.specs.Hex.{digit_of, byte_of, unhex, all_hex, is_dash, is_bytes, bytes_of, decode_answer};
 ghost use Rattle.text_hex.specs.Written.{hex_word};
 
+use octets_slice::has_room;
 use spelling::spell;
 use text_put::put;
 
-// What decoding a word of hex finds: the place after its bytes, or that it is bad or does not fit.
-#[derive(Clone, Copy)]
-pub enum Decoded {
-    End(usize),
-    Bad,
-}
-
-// Puts the bytes of a word of hex into `out` at `at`; a word that is bad or does not fit puts none.
-pub fn decode(word: &[u8], out: &mut [u8], at: usize) -> Decoded
+// Puts the bytes of a word of hex into `out` at `at` and answers the place after them; a word that is bad or does not fit puts none.
+#[tactic(auto, using(crate::proofs::HexLaws::read), unfolding(crate::specs::Hex::decode_answer, text_put::specs::Places::fits, octets_slice::specs::Slices::copied))]
+pub fn decode(word: &[u8], out: &mut [u8], at: usize) -> Option<usize>
     ensures { (result ≡ decode_answer word.now out.old at) × (out.new ≡ copied (bytes_of word.now) at out.old) }
 {
-    if !is_bytes(word) {
-        return Decoded::Bad;
-    }
-    if out.len() < at {
-        return Decoded::Bad;
-    }
     let n = word.len() / 2;
-    if out.len() - at < n {
-        return Decoded::Bad;
+    if !is_bytes(word) || !has_room(out.len(), at, n) {
+        return None;
     }
-    fill(word, n, out, at);
-    Decoded::End(at + n)
+    fill(word, out, at);
+    Some(at + n)
 }
 
 // Puts bytes as a word of hex into `out` at `at` and answers the place after it; a word that does not fit puts nothing and answers `at`.
+#[tactic(auto, using(crate::proofs::WrittenLaws::written), unfolding(text_put::specs::Places::fits, text_put::specs::Places::place_after, octets_slice::specs::Slices::copied))]
 pub fn put_hex(bytes: &[u8], out: &mut [u8], at: usize) -> usize
     ensures { (result ≡ place_after (hex_word bytes.now) out.old at) × (out.new ≡ copied (hex_word bytes.now) at out.old) }
 {
-    if bytes.len() == 0 {
+    if bytes.is_empty() {
         return put(b"-", out, at);
     }
-    if out.len() < at {
-        return at;
-    }
-    if (out.len() - at) / 2 < bytes.len() {
+    let n = 2 * bytes.len();
+    if !has_room(out.len(), at, n) {
         return at;
     }
     spell(bytes, out, at);
-    at + 2 * bytes.len()
+    at + n
 }
 
-// The value of a hex digit, and 16 for any other byte.
-fn digit(c: u8) -> u8
-    ensures { result ≡ digit_of c }
+// The value of a hex digit.
+#[tactic(auto, unfolding(crate::specs::Hex::digit_of))]
+fn digit(c: u8) -> Option<u8>
+    ensures { result ≡ cond (ltb (digit_of c) 16) (Some (digit_of c)) None }
 {
-    if c < 48 {
-        return 16;
+    match c {
+        b'0'..=b'9' => Some(c - b'0'),
+        b'A'..=b'F' => Some(c - b'A' + 10),
+        b'a'..=b'f' => Some(c - b'a' + 10),
+        _ => None,
     }
-    if c < 58 {
-        return c - 48;
-    }
-    if c < 65 {
-        return 16;
-    }
-    if c < 71 {
-        return c - 55;
-    }
-    if c < 97 {
-        return 16;
-    }
-    if c < 103 {
-        return c - 87;
-    }
-    16
 }
 
+fn is_digit(c: u8) -> bool
+    ensures { result ≡ ltb (digit_of c) 16 }
+{
+    digit(c).is_some()
+}
+
+#[tactic(auto, unfolding(crate::specs::Hex::byte_of))]
 fn pair(a: u8, b: u8) -> u8
     requires { (digit_of a < 16) × (digit_of b < 16) }
     ensures { result ≡ byte_of a b }
 {
-    digit(a) * 16 + digit(b)
+    digit(a).unwrap() * 16 + digit(b).unwrap()
 }
 
 fn all_hex(s: &[u8]) -> bool
     ensures { result ≡ all_hex s.now }
 {
-    let mut i: usize = 0;
-    while i < s.len() {
-        if 15 < digit(s[i]) {
-            return false;
-        }
-        i += 1;
-    }
-    true
+    s.iter().all(|c| is_digit(*c))
 }
 
+#[tactic(auto, unfolding(crate::specs::Hex::is_dash))]
 fn is_dash(word: &[u8]) -> bool
     ensures { result ≡ is_dash word.now }
 {
-    if word.len() == 1 {
-        return word[0] == 45;
-    }
-    false
+    matches!(word, b"-")
 }
 
+#[tactic(auto, unfolding(crate::specs::Hex::is_bytes))]
 fn is_bytes(word: &[u8]) -> bool
     ensures { result ≡ is_bytes word.now }
 {
-    if is_dash(word) {
-        return true;
-    }
-    if word.len() == 0 {
-        return false;
-    }
-    if word.len() % 2 != 0 {
-        return false;
-    }
-    all_hex(word)
+    is_dash(word) || !word.is_empty() && word.len() % 2 == 0 && all_hex(word)
 }
 
-// The n bytes of a word, two digits each: `-` has none.
-fn fill(s: &[u8], n: usize, out: &mut [u8], at: usize)
-    requires { (2 * n ≤ length s.now) × (at + n ≤ length out.old) × (is_bytes s.now ≡ true) }
-    ensures { out.new ≡ paste out.old at (unhex s.now) n }
+// The bytes of a word, two digits each: `-` has none.
+fn fill(s: &[u8], out: &mut [u8], at: usize)
+    requires { (at + length s.now / 2 ≤ length out.old) × (is_bytes s.now ≡ true) }
+    ensures { out.new ≡ paste out.old at (unhex s.now) (length s.now / 2) }
 {
-    let mut i: usize = 0;
-    while i < n {
-        out[at + i] = pair(s[2 * i], s[2 * i + 1]);
-        i += 1;
+    for (i, digits) in s.chunks_exact(2).enumerate() {
+        out[at + i] = pair(digits[0], digits[1]);
     }
 }

@@ -1,16 +1,11 @@
-use Rattle.text_hex.proofs.HexLaws.{all_more, all_not, all_end}
-use mathlib.Core.Path.{refl, ◌∙◌}
-use native.Mathlib.Omega.{arith}
+use Rattle.std.proofs.Common.{rules, sym, ◌∙◌, ltb, tests}
+use Rattle.std.proofs.lemmas.Iterator.{YieldsList-from_slice}
+use Rattle.std.proofs.lemmas.Iterator.Search.{all_from_yields_List}
+use Rattle.text_hex.specs.Hex.{digit_of}
+use Rattle.text_hex.proofs.HexLaws.{all_hex_is}
 use Rattle.text_hex.proofs.all_hex.Goals as goal
 
-pub loop-i-init : goal.loop-i-init
-loop-i-init c = refl
-
-pub returns-then-digit-gt15 : goal.returns-then-digit-gt15
-returns-then-digit-gt15 c = all_not _ _ c.loop-i-test.true (omega (arith, c.digit.ensures)) ∙ c.loop-i.invariant
-
-pub loop-i-preserved : goal.loop-i-preserved
-loop-i-preserved c = all_more _ _ c.loop-i-test.true (omega (arith, c.digit.ensures)) ∙ c.loop-i.invariant
-
 pub returns : goal.returns
-returns c = all_end _ _ c.loop-i-test.false ∙ c.loop-i.invariant
+returns c =
+    let xs = c.args.s.now in
+    all_from_yields_List (λ d. ltb (digit_of d) 16) _ _ _ c.all.ensures.ran (YieldsList-from_slice xs cc) (λ x b q k. search (rules, tests)) ∙ sym (all_hex_is xs)

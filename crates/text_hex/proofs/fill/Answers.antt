@@ -1,33 +1,39 @@
-use mathlib.Core.Path.{◌≡◌, refl, ap, ◌∙◌}
-use Prim.Native.Nat.{ℕ, ◌+◌, ◌*◌}
-use lib.ListN.{set, length-set}
-use mathlib.Core.List.{List}
-use lib.Seq.{paste-zero}
-use Rattle.text_hex.proofs.HexLaws.{unhex_more, bytes_at}
-use Rattle.text_hex.specs.Hex.{unhex}
-use native.Mathlib.Omega.{arith}
+use Rattle.std.proofs.Common.{◌≡◌, ◌+◌, ◌*◌, ◌/◌, ◌∙◌, sym, ap₂, ap, arith, length}
+use Rattle.std.proofs.lemmas.List.{length-drop}
+use Rattle.text_hex.specs.Hex.{byte_of}
+use Rattle.text_hex.proofs.HexLaws.{unhex_more, bytes_at, pair_taken}
 use Rattle.text_hex.proofs.fill.Goals as goal
-
-pub loop-i-init : goal.loop-i-init
-loop-i-init c = let a = c.args in (paste-zero a.out.now a.at (unhex a.s.now), refl, omega arith)
 
 pub pair-requires : goal.pair-requires
 pair-requires c =
-    let a = c.args in
-    let p = c.requires in
-    let i = c.loop-i.i in
-    (bytes_at a.s.now a.n (2 * i) p.2 (omega arith) (omega arith), bytes_at a.s.now a.n (2 * i + 1) p.2 (omega arith) (omega arith))
+    let s = c.args.s.now in
+    let n = c.loop-i.i-iterator.count in
+    let v = c.loop-i.invariant in
+    let t = c.in-Some.ensures.steps in
+    let p = pair_taken s _ _ n (sym v.rest ∙ t.0.1.0) (t.0.1.1 ∙ v.size) in
+    (rw p.0 (bytes_at s (length s / 2) (2 * n) c.requires.1 (omega arith) (omega arith)), rw p.1 (bytes_at s (length s / 2) (2 * n + 1) c.requires.1 (omega arith) (omega arith)))
 
 pub loop-i-preserved : goal.loop-i-preserved
 loop-i-preserved c =
-    let l = c in
     let a = c.args in
-    let i = l.loop-i.i in
-    (ap (λ (o : List ℕ). set o (a.at + i) c.pair.result) l.loop-i.invariant.0 ∙ unhex_more a.out.now a.s.now a.at a.n i _ (omega arith) (omega arith) (omega arith) c.pair.ensures, length-set l.loop-i.out (a.at + i) c.pair.result ∙ l.loop-i.invariant.1, omega arith)
+    let s = a.s.now in
+    let n = c.loop-i.i-iterator.count in
+    let v = c.loop-i.invariant in
+    let t = c.in-Some.ensures.steps in
+    let p = pair_taken s _ _ n (sym v.rest ∙ t.0.1.0) (t.0.1.1 ∙ v.size) in
+    record {
+      put = rw (t.1, t.2, v.put) (unhex_more a.out.now s a.at (length s / 2) n _ (omega arith) (omega arith) (omega arith) (c.pair.ensures ∙ ap₂ byte_of p.0 p.1));
+      rest = rw t.2 (sym p.2);
+      size = t.0.0 ∙ v.size;
+      passed = rw t.2 p.3;
+    }
 
 pub returns : goal.returns
 returns c =
-    let l = c in
-    let a = c.args in
-    let e : l.loop-i.i ≡ a.n = omega arith in
-    rw e at l.loop-i.invariant.0
+    let s = c.args.s.now in
+    let n = c.loop-i.i-iterator.count in
+    let v = c.loop-i.invariant in
+    let t = c.in-None.ensures.steps in
+    let d = ap length v.rest ∙ length-drop (2 * n) s in
+    let e : n ≡ length s / 2 = omega (arith, d, t.0.1.0, v.size, v.passed) in
+    rw (← e) v.put
