@@ -21,11 +21,6 @@ pub miss : (t : Bool) (a : ReceiveAnswer) (ts : List (Bool × ReceiveAnswer)) (v
 unfolding first_told
 miss t a ts v e f = rw e f
 
--- where none is left, the block is accepted
-pub through : Received ≡ first_told []
-unfolding first_told
-through = refl
-
 -- the first answer, or, where that accepts, the second
 abbrev pub sooner : ReceiveAnswer → ReceiveAnswer → ReceiveAnswer
 sooner a b = cond (accepted a) b a

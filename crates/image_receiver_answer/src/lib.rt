@@ -7,12 +7,12 @@ ghost use Rattle.image_receiver_answer.specs.Answers as spec;
 
 use image_layout::Head;
 use image_limits::{count_fits, length_fits};
-use image_reasons::{Reason, Value};
+use image_reasons::Reason;
 use image_receiver_map::map_size;
 
 // The count and the release that a receiver was told, how many blocks it holds, and the sum of their payload lengths.
 #[repr(C)]
-#[derive(Clone, Copy)]
+#[derive(Clone, Copy, Debug, PartialEq, Eq)]
 pub struct Receipt {
     pub count: u32,
     pub release: u32,
@@ -21,7 +21,7 @@ pub struct Receipt {
 }
 
 // The answer to a block.
-#[derive(Clone, Copy)]
+#[derive(Clone, Copy, Debug, PartialEq, Eq)]
 pub enum ReceiveAnswer {
     Received,
     NotABlock,
@@ -32,7 +32,7 @@ pub enum ReceiveAnswer {
 }
 
 // The answer to a start, with the count if that is refused.
-#[derive(Clone, Copy)]
+#[derive(Clone, Copy, Debug, PartialEq, Eq)]
 pub enum BeginAnswer {
     Begun,
     BeginKey,
@@ -54,16 +54,16 @@ impl ReceiveAnswer {
         }
     }
 
-    pub fn value(self) -> Value
+    pub fn value(self) -> Option<u32>
         ensures { result ≡ value_of (spec.receive_value self) }
     {
         match self {
-            ReceiveAnswer::Received => Value::NoValue,
-            ReceiveAnswer::NoRoom => Value::NoValue,
-            ReceiveAnswer::NotABlock => Value::NoValue,
             ReceiveAnswer::Because(reason) => reason.value(),
-            ReceiveAnswer::NotBelow => Value::NoValue,
-            ReceiveAnswer::AlreadyHeld => Value::NoValue,
+            ReceiveAnswer::Received
+            | ReceiveAnswer::NoRoom
+            | ReceiveAnswer::NotABlock
+            | ReceiveAnswer::NotBelow
+            | ReceiveAnswer::AlreadyHeld => None,
         }
     }
 }
@@ -76,61 +76,50 @@ impl BeginAnswer {
             BeginAnswer::Begun => 0,
             BeginAnswer::BeginKey => 1,
             BeginAnswer::BeginRoom => 4,
-            BeginAnswer::BeginCount(count) => 7,
+            BeginAnswer::BeginCount(_) => 7,
         }
     }
 
-    pub fn value(self) -> Value
+    pub fn value(self) -> Option<u32>
         ensures { result ≡ value_of (spec.begin_value self) }
     {
         match self {
-            BeginAnswer::Begun => Value::NoValue,
-            BeginAnswer::BeginKey => Value::NoValue,
-            BeginAnswer::BeginRoom => Value::NoValue,
-            BeginAnswer::BeginCount(count) => Value::Held(count),
+            BeginAnswer::BeginCount(count) => Some(count),
+            BeginAnswer::Begun | BeginAnswer::BeginKey | BeginAnswer::BeginRoom => None,
         }
     }
 }
 
 // Whether a store and a map of these lengths hold so many blocks.
+#[tactic(auto, unfolding(crate::specs::Answers::room_for))]
 pub fn has_room(count: u32, store: usize, map: usize) -> bool
     ensures { result ≡ spec.room_for count store map }
 {
-    if store < count as usize * 480 {
-        return false;
-    }
-    map_size(count) <= map
+    count as usize * 480 <= store && map_size(count) <= map
 }
 
 // What the tests 7, 9, 10, 20, 12 and 13 say of a header, asked in that order.
+#[tactic(auto, unfolding(crate::specs::Answers::header_tests, crate::specs::Answers::first_told))]
 pub fn judge_header(receipt: Receipt, head: Head) -> ReceiveAnswer
     ensures { result ≡ spec.first_told (spec.header_tests receipt head) }
 {
-    let number = head.number;
-    let count = head.count;
-    let release = head.release;
-    let len = head.len;
-    let reserved = head.reserved;
-    let other_count = count != receipt.count;
-    let other_release = release != receipt.release;
-    let below = number < receipt.count;
-    if !count_fits(count) {
-        return ReceiveAnswer::Because(Reason::Count(count));
+    if !count_fits(head.count) {
+        return ReceiveAnswer::Because(Reason::Count(head.count));
     }
-    if other_count {
-        return ReceiveAnswer::Because(Reason::OtherCount(count));
+    if head.count != receipt.count {
+        return ReceiveAnswer::Because(Reason::OtherCount(head.count));
     }
-    if other_release {
-        return ReceiveAnswer::Because(Reason::OtherRelease(release));
+    if head.release != receipt.release {
+        return ReceiveAnswer::Because(Reason::OtherRelease(head.release));
     }
-    if !below {
+    if head.number >= receipt.count {
         return ReceiveAnswer::NotBelow;
     }
-    if !length_fits(number, count, len as usize) {
-        return ReceiveAnswer::Because(Reason::Length(len));
+    if !length_fits(head.number, head.count, usize::from(head.len)) {
+        return ReceiveAnswer::Because(Reason::Length(head.len));
     }
-    if reserved != 0 {
-        return ReceiveAnswer::Because(Reason::Reserved(reserved));
+    if head.reserved != 0 {
+        return ReceiveAnswer::Because(Reason::Reserved(head.reserved));
     }
     ReceiveAnswer::Received
 }
