@@ -2,7 +2,7 @@
 use mathlib.Core.Path.{◌≡◌, sym, ap, ap₂, ◌∙◌}
 use Prim.Native.Nat.{ℕ, ◌-◌, ◌*◌, ◌/◌, ◌%◌, ◌<◌}
 use native.Mathlib.Omega.{arith}
-use lib.Bits.{bit_and, and_mask, and_high}
+use lib.Bits.{bit_and, and_le_r, and_mask, and_high}
 use Rattle.octets.specs.Octets.{xor}
 use Rattle.octets.specs.Words.{word, byte}
 use Rattle.octets.proofs.Xor.{xor_assoc, xor_comm, xor_left_comm, xor_lt}
@@ -72,11 +72,12 @@ module _ (a b c d : ℕ) (ha : a < 256) (hb : b < 256) (hc : c < 256) (hd : d < 
       → column first (byte 0 x) (byte 1 x) (byte 2 x) (byte 3 x) ≡ column first a b c d
   column_word first x e = rw (e, byte0_word a b c d, byte1_word a b c d, byte2_word a b c d, byte3_word a b c d)
 
-pub double_code : (x : ℕ) → x < 4294967296 → xor (bit_and x 0x7f7f7f7f * 2) (bit_and (bit_and x 0x80808080 - bit_and x 0x80808080 / 128) 0x1b1b1b1b) ≡ doubled x
+pub double_code : (x : ℕ) → x < 4294967296 → xor (bit_and x 0x7f7f7f7f * 2 % 4294967296) (bit_and (bit_and x 0x80808080 - bit_and x 0x80808080 / 128) 0x1b1b1b1b) ≡ doubled x
 unfolding doubled
 double_code x h =
-    ap (λ (y : ℕ). xor (bit_and y 0x7f7f7f7f * 2) (bit_and (bit_and y 0x80808080 - bit_and y 0x80808080 / 128) 0x1b1b1b1b)) (sym (word_bytes x h))
-    ∙ double_bytes (byte 0 x) (byte 1 x) (byte 2 x) (byte 3 x) (byte_lt 0 x) (byte_lt 1 x) (byte_lt 2 x) (byte_lt 3 x)
+    let e : bit_and x 0x7f7f7f7f * 2 % 4294967296 ≡ bit_and x 0x7f7f7f7f * 2 = omega (arith, and_le_r x 0x7f7f7f7f) in
+    rw e (ap (λ (y : ℕ). xor (bit_and y 0x7f7f7f7f * 2) (bit_and (bit_and y 0x80808080 - bit_and y 0x80808080 / 128) 0x1b1b1b1b)) (sym (word_bytes x h))
+    ∙ double_bytes (byte 0 x) (byte 1 x) (byte 2 x) (byte 3 x) (byte_lt 0 x) (byte_lt 1 x) (byte_lt 2 x) (byte_lt 3 x))
 
 -- ---- the mixing of a column
 

@@ -7,6 +7,7 @@ ghost use Rattle.aes_mix.specs.Mixing.{doubled, mix_column, inv_mix_column};
 use aes_words::{rot_three, rot_two, rot_word};
 
 // 2a + 3b + c + d at each byte is 2(a + b) + b + c + d, where b, c and d are the word rotated.
+#[tactic(auto, using(crate::proofs::Mix::mix_code), unfolding(octets::specs::Octets::xor))]
 pub fn mix_column(x: u32) -> u32
     ensures { result ≡ mix_column x }
 {
@@ -15,6 +16,7 @@ pub fn mix_column(x: u32) -> u32
 }
 
 // The inverse matrix is the matrix times one that adds to each byte four times its sum with the byte two below.
+#[tactic(auto, using(crate::proofs::Mix::inv_mix_code), unfolding(octets::specs::Octets::xor))]
 pub fn inv_mix_column(x: u32) -> u32
     ensures { result ≡ inv_mix_column x }
 {
@@ -22,9 +24,10 @@ pub fn inv_mix_column(x: u32) -> u32
 }
 
 // Doubles the four bytes at once: the low seven bits of each shifted, and 1b for each top bit.
+#[tactic(auto, using(crate::proofs::Mix::double_code), unfolding(octets::specs::Octets::xor))]
 fn double_each(x: u32) -> u32
     ensures { result ≡ doubled x }
 {
     let tops = x & 0x80808080;
-    ((x & 0x7f7f7f7f) * 2) ^ ((tops - tops / 128) & 0x1b1b1b1b)
+    ((x & 0x7f7f7f7f) << 1) ^ ((tops - (tops >> 7)) & 0x1b1b1b1b)
 }
