@@ -9,6 +9,7 @@ use Rattle.octets.specs.Octets.{Octets}
 use Rattle.octets.proofs.Blocks.{⊕-octets, zeros_bytes}
 use Rattle.aes_sbox.specs.Sbox.{s_box, inv_s_box}
 use Rattle.aes_sbox.proofs.Laws.{inv_s_box_lt}
+use Rattle.aes_schedule.specs.declared.KeySchedule.{KeySchedule}
 use Rattle.aes_schedule.specs.Schedule.{schedule_of, round_count}
 use Rattle.aes_schedule.proofs.Laws.{schedule_length}
 use Rattle.aes_spec.specs.Cipher.{decrypt_block, standard}
@@ -20,7 +21,7 @@ use Rattle.modes_spec.specs.declared.Operation.{Operation}
 use Rattle.aesavs_line.specs.declared.Way.{Way}
 use Rattle.aesavs_line.specs.declared.Way.TheVariants.{Encrypting, Decrypting}
 use Rattle.aesavs_monte.specs.Chain.{operation_of, decryption, turn_of, begun, iterate, turns, next_link, ended, ran_of}
-use Rattle.aesavs_monte.specs.Model.{words_for}
+use Rattle.aesavs_monte.specs.Model.{schedule_for}
 use Rattle.aesavs_monte.specs.declared.Turn.{Turn}
 use Rattle.aesavs_monte.specs.declared.Link.{Link}
 use Rattle.aesavs_monte.specs.declared.Ran.{Ran}
@@ -66,9 +67,8 @@ module _ (w : List ℕ) (nr : ℕ) where
         let u = iterate n (turn_of (machine (standard w nr) (decryption ch)) ch) t in
         (ap f h.0 ∙ same_turn ch u h.1, keeps ch u h.1)
 
--- v and nr are the words and the rounds that the code makes of a key
 pub turns_agree : (way : Way) (ch : Bool) (key iv text : List ℕ) (n : ℕ) → Octets 16 iv → Octets 16 text
-    → iterate n (turn_of (machine (one_way (words_for way key) (schedule_of s_box key).schedule.rounds) (operation_of way ch)) ch) (begun iv text) ≡ turns way ch key iv text n
+    → iterate n (turn_of (machine (one_way (schedule_for way key).words (schedule_for way key).rounds) (operation_of way ch)) ch) (begun iv text) ≡ turns way ch key iv text n
 unfolding turns
 turns_agree Encrypting true key iv text n i o = refl
 turns_agree Encrypting false key iv text n i o = refl
@@ -76,11 +76,11 @@ turns_agree Decrypting ch key iv text n i o =
     (same_turns (schedule_of s_box key).schedule.words (schedule_of s_box key).schedule.rounds (schedule_length s_box key) ch (begun iv text)
     (record { chained = i; earlier = i; latest = i; coming = o }) n).0
 
--- what the code computes of a record: v, nr, o, t are what the calls give, one after the other
-pub steps_agree : (way : Way) (ch : Bool) (key iv text v : List ℕ) (nr : ℕ) (o : Operation) (t : Turn) → Octets 16 iv → Octets 16 text
-    → (nr ≡ (schedule_of s_box key).schedule.rounds) × (v ≡ words_for way key) → o ≡ operation_of way ch
-    → t ≡ iterate 1000 (turn_of (machine (one_way v nr) o) ch) (begun iv text) → t ≡ turns way ch key iv text 1000
-steps_agree way ch key iv text v nr o t oi ot ps po pt = pt ∙ rw (ps.0, ps.1, po) (turns_agree way ch key iv text 1000 oi ot)
+-- what the code computes of a record: s, o, t are what the calls give, one after the other
+pub steps_agree : (way : Way) (ch : Bool) (key iv text : List ℕ) (s : KeySchedule) (o : Operation) (t : Turn) → Octets 16 iv → Octets 16 text
+    → s ≡ schedule_for way key → o ≡ operation_of way ch
+    → t ≡ iterate 1000 (turn_of (machine (one_way s.words s.rounds) o) ch) (begun iv text) → t ≡ turns way ch key iv text 1000
+steps_agree way ch key iv text s o t oi ot ps po pt = pt ∙ rw (ps, po) (turns_agree way ch key iv text 1000 oi ot)
 
 pub ran_agrees : (way : Way) (ch : Bool) (l : Link) (k : List ℕ) (t : Turn) (x : Link)
     → k ≡ take (l.size - 0) (drop 0 l.key) → t ≡ turns way ch k l.iv l.text 1000 → x ≡ next_link ch l t

@@ -3,14 +3,15 @@ use Rattle.std.specs.Prelude.{ℕ, ◌+◌, ◌-◌, cond, List, leb, get_or}
 use Rattle.octets.specs.Octets.{xor}
 use Rattle.aes_sbox.specs.Sbox.{s_box}
 use Rattle.aes_schedule.specs.Schedule.{schedule_of}
-use Rattle.aes_spec.specs.Model.{inverse_words}
+use Rattle.aes_schedule.specs.declared.KeySchedule.{KeySchedule}
+use Rattle.aes_spec.specs.Model.{inverse_schedule}
 use Rattle.aesavs_line.specs.declared.Way.{Way}
 use Rattle.aesavs_line.specs.declared.Way.TheVariants.{Encrypting, Decrypting}
 
--- the words of a key for the way that is asked for
-abbrev pub words_for : Way → List ℕ → List ℕ
-words_for Encrypting key = (schedule_of s_box key).schedule.words
-words_for Decrypting key = inverse_words (schedule_of s_box key).schedule.words (schedule_of s_box key).schedule.rounds
+-- the schedule of a key for the way that is asked for
+abbrev pub schedule_for : Way → List ℕ → KeySchedule
+schedule_for Encrypting key = (schedule_of s_box key).schedule
+schedule_for Decrypting key = inverse_schedule (schedule_of s_box key).schedule
 
 -- byte i of the next key, where the key has n bytes
 abbrev pub key_byte : (key : List ℕ) (n : ℕ) (both : List ℕ) (i : ℕ) → ℕ

@@ -1,27 +1,20 @@
 // The schedule of a record's key, and the key of the next record.
 ghost use Rattle.std.specs.Prelude.{◌≡◌, ◌++◌, ◌≤◌, ◌<◌, get_or, take};
 ghost use Rattle.octets.specs.Octets.{over};
-ghost use Rattle.aes_sbox.specs.Sbox.{s_box};
-ghost use Rattle.aes_schedule.specs.Schedule.{schedule_of};
 ghost use Rattle.aesavs_monte.specs.Chain.{next_key};
-ghost use Rattle.aesavs_monte.specs.Model.{words_for, key_byte};
+ghost use Rattle.aesavs_monte.specs.Model.{schedule_for, key_byte};
 
-use aes_schedule::schedule_into;
+use aes_schedule::KeySchedule;
 use aes_schedule_inverse::invert;
 use aesavs_line::Way;
-use octets_slice::smaller;
 
-// The words for the direction asked for, and the number of rounds.
-pub fn schedule_for(way: Way, key: &[u8], words: &mut [u32; 60]) -> usize
-    ensures { (result ≡ (schedule_of s_box key.now).schedule.rounds) × (words.new ≡ words_for way key.now) }
+// The schedule for the direction asked for.
+pub fn schedule_for(way: Way, key: &[u8], schedule: &mut KeySchedule)
+    ensures { schedule.new ≡ schedule_for way key.now }
 {
-    let rounds = schedule_into(key, words);
-    match way {
-        Way::Encrypting => rounds,
-        Way::Decrypting => {
-            invert(words, rounds);
-            rounds
-        }
+    let _ = schedule.expand(key);
+    if let Way::Decrypting = way {
+        invert(schedule);
     }
 }
 
@@ -29,8 +22,8 @@ pub fn schedule_for(way: Way, key: &[u8], words: &mut [u32; 60]) -> usize
 pub fn next_key(key: [u8; 32], size: usize, before: [u8; 16], last: [u8; 16]) -> [u8; 32]
     ensures { result ≡ over (next_key (take size key) before last) key }
 {
-    let n = smaller(size, 32);
-    let mut next = [0u8; 32];
+    let n = size.min(32);
+    let mut next = [0; 32];
     for i in 0..32 {
         next[i] = key_byte(key, n, before, last, i);
     }

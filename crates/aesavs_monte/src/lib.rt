@@ -7,6 +7,7 @@ mod steps;
 ghost use Rattle.std.specs.Prelude.{◌≡◌};
 ghost use Rattle.aesavs_monte.specs.Chain as spec;
 
+use aes_schedule::KeySchedule;
 use aesavs_line::Way;
 use keys::{next_key, schedule_for};
 use modes_spec::Operation;
@@ -43,9 +44,11 @@ pub struct Ran {
 pub fn operation_of(way: Way, chained: bool) -> Operation
     ensures { result ≡ spec.operation_of way chained }
 {
-    match way {
-        Way::Encrypting => encryption(chained),
-        Way::Decrypting => decryption(chained),
+    match (way, chained) {
+        (Way::Encrypting, true) => Operation::CbcEncrypt,
+        (Way::Encrypting, false) => Operation::EcbEncrypt,
+        (Way::Decrypting, true) => Operation::CbcDecrypt,
+        (Way::Decrypting, false) => Operation::EcbDecrypt,
     }
 }
 
@@ -69,13 +72,16 @@ pub fn link_of(key: &[u8], iv: &[u8], text: &[u8]) -> Link
 pub fn run(way: Way, chained: bool, link: Link) -> Ran
     ensures { result ≡ spec.ran_of way chained link }
 {
-    let key = link.key;
-    let iv = link.iv;
-    let text = link.text;
-    let t = record_steps(way, chained, part(&key, 0, link.size), iv, text);
-    let last = t.last;
+    let t = record_steps(
+        way,
+        chained,
+        part(&link.key, 0, link.size),
+        link.iv,
+        link.text,
+    );
+    let output = t.last;
     Ran {
-        output: last,
+        output,
         next: next_link(chained, link, t),
     }
 }
@@ -84,10 +90,10 @@ pub fn run(way: Way, chained: bool, link: Link) -> Ran
 fn record_steps(way: Way, chained: bool, key: &[u8], iv: [u8; 16], text: [u8; 16]) -> Turn
     ensures { result ≡ spec.turns way chained key.now iv text 1000 }
 {
-    let mut words = [0u32; 60];
-    let rounds = schedule_for(way, key, &mut words);
+    let mut schedule = KeySchedule::none();
+    schedule_for(way, key, &mut schedule);
     let operation = operation_of(way, chained);
-    thousand(&words, rounds, operation, chained, iv, text)
+    thousand(&schedule, operation, chained, iv, text)
 }
 
 // What the record after one starts from.
@@ -98,38 +104,20 @@ fn next_link(chained: bool, link: Link, t: Turn) -> Link
     let last = t.last;
     let iv = link.iv;
     let size = link.size;
-    let old = link.key;
-    let key = next_key(old, size, before, last);
+    let key = next_key(link.key, size, before, last);
     if chained {
-        return Link {
+        Link {
             key,
             size,
             iv: last,
             text: before,
-        };
+        }
+    } else {
+        Link {
+            key,
+            size,
+            iv,
+            text: last,
+        }
     }
-    Link {
-        key,
-        size,
-        iv,
-        text: last,
-    }
-}
-
-fn encryption(chained: bool) -> Operation
-    ensures { result ≡ spec.encryption chained }
-{
-    if chained {
-        return Operation::CbcEncrypt;
-    }
-    Operation::EcbEncrypt
-}
-
-fn decryption(chained: bool) -> Operation
-    ensures { result ≡ spec.decryption chained }
-{
-    if chained {
-        return Operation::CbcDecrypt;
-    }
-    Operation::EcbDecrypt
 }

@@ -5,18 +5,18 @@ ghost use Rattle.modes_spec.specs.Modes.{machine};
 ghost use Rattle.aesavs_monte.specs.Chain.{turn_of, begun, iterate};
 
 use crate::Turn;
+use aes_schedule::KeySchedule;
 use modes_spec::Operation;
 use modes_step::step;
 
 pub fn thousand(
-    words: &[u32; 60],
-    rounds: usize,
+    schedule: &KeySchedule,
     operation: Operation,
     chained: bool,
     iv: [u8; 16],
     text: [u8; 16],
 ) -> Turn
-    ensures { result ≡ iterate 1000 (turn_of (machine (one_way words.now rounds) operation) chained) (begun iv text) }
+    ensures { result ≡ iterate 1000 (turn_of (machine (one_way schedule.now.words schedule.now.rounds) operation) chained) (begun iv text) }
 {
     let mut t = Turn {
         chain: iv,
@@ -24,36 +24,26 @@ pub fn thousand(
         last: iv,
         text,
     };
-    let steps: usize = 1000;
-    for j in 0..steps {
-        let u = one(words, rounds, operation, chained, t);
+    for j in 0..1000usize {
+        let u = one(schedule, operation, chained, t);
         t = u;
     }
     t
 }
 
 // The input of the next step is the output of this one in ECB, of the one before in CBC.
-fn one(words: &[u32; 60], rounds: usize, operation: Operation, chained: bool, t: Turn) -> Turn
-    ensures { result ≡ turn_of (machine (one_way words.now rounds) operation) chained t }
+fn one(schedule: &KeySchedule, operation: Operation, chained: bool, t: Turn) -> Turn
+    ensures { result ≡ turn_of (machine (one_way schedule.now.words schedule.now.rounds) operation) chained t }
 {
-    let chain = t.chain;
-    let text = t.text;
-    let last = t.last;
-    let s = step(words, rounds, operation, chain, text);
-    let out = s.out;
-    let next = s.next;
-    if chained {
-        return Turn {
-            chain: next,
-            before: last,
-            last: out,
-            text: last,
-        };
-    }
+    let s = step(schedule, operation, t.chain, t.text);
+    let chain = s.next;
+    let before = t.last;
+    let last = s.out;
+    let text = if chained { before } else { last };
     Turn {
-        chain: next,
-        before: last,
-        last: out,
-        text: out,
+        chain,
+        before,
+        last,
+        text,
     }
 }

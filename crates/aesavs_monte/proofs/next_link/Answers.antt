@@ -5,6 +5,6 @@ pub returns-then-chained : goal.returns-then-chained
 unfolding next_link
 returns-then-chained c = rw (c.next_key-key.ensures, c.if-chained.true)
 
-pub returns : goal.returns
+pub returns-else-chained : goal.returns-else-chained
 unfolding next_link
-returns c = rw (c.next_key-key.ensures, c.if-chained.false)
+returns-else-chained c = rw (c.next_key-key.ensures, c.if-chained.false)

@@ -18,5 +18,5 @@ pub returns : goal.returns
 returns c = let k = c in
     let a = k.args in
     filled_all c.loop-i.invariant.1 c.loop-i-test.false
-    ∙ ap (λ (m : ℕ). tabulate 32 (key_byte a.key m (a.before ++ a.last))) k.smaller-n.ensures
+    ∙ ap (λ (m : ℕ). tabulate 32 (key_byte a.key m (a.before ++ a.last))) k.min-n.ensures
     ∙ next_key_bytes a.key a.size a.before a.last (search rules) (search rules) (search rules)

@@ -20,12 +20,12 @@ loop-j-init c = (search rules, refl)
 pub loop-j-preserved : goal.loop-j-preserved
 loop-j-preserved c = let l = c.loop-j in
     let a = c.args in
-    let f = turn_of (machine (one_way a.words.now a.rounds) a.operation) a.chained in
+    let f = turn_of (machine (one_way a.schedule.now.words a.schedule.now.rounds) a.operation) a.chained in
     (search rules, c.one-u.ensures ∙ ap f l.invariant.1 ∙ step_more l.j f _)
 
 pub returns : goal.returns
 returns c = let l = c.loop-j in
     let a = c.args in
-    let f = turn_of (machine (one_way a.words.now a.rounds) a.operation) a.chained in
+    let f = turn_of (machine (one_way a.schedule.now.words a.schedule.now.rounds) a.operation) a.chained in
     let e : l.j ≡ 1000 = omega arith in
     l.invariant.1 ∙ ap (λ (i : ℕ). iterate i f (begun a.iv a.text)) e

@@ -6,4 +6,4 @@ use mathlib.Core.Path.{◌≡◌}
 use Rattle.aesavs_monte.proofs.steps.thousand.Given as goal
 
 abbrev pub invariant-loop-j : goal.invariant-loop-j
-invariant-loop-j l = (l.j ≤ 1000) × (l.t ≡ iterate l.j (turn_of (machine (one_way l.words l.rounds) l.operation) l.chained) l.initial.t)
+invariant-loop-j l = (l.j ≤ 1000) × (l.t ≡ iterate l.j (turn_of (machine (one_way l.schedule.words l.schedule.rounds) l.operation) l.chained) l.initial.t)
