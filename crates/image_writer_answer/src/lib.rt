@@ -7,7 +7,7 @@ ghost use Rattle.image_writer_answer.specs.Answers.{write_number, write_ruled, l
 use image_limits::{count_fits, is_edition, length_fits};
 
 // The case of the call, or why it was refused.
-#[derive(Clone, Copy)]
+#[derive(Clone, Copy, Debug, PartialEq, Eq)]
 pub enum WriteAnswer {
     Written,
     WriteKey,
@@ -35,7 +35,7 @@ impl WriteAnswer {
 }
 
 // What a block says about itself: its number, how many blocks the image has, its release, and its edition, 1 or 2.
-#[derive(Clone, Copy)]
+#[derive(Clone, Copy, Debug, PartialEq, Eq)]
 pub struct Numbers {
     pub number: u32,
     pub count: u32,
@@ -44,6 +44,7 @@ pub struct Numbers {
 }
 
 // The writer's answer, from that for the keys and the lengths of payload and output.
+#[tactic(auto, unfolding(crate::specs::Answers::write_ruled))]
 pub fn judge_write(keys: bool, numbers: Numbers, len: usize, room: usize) -> WriteAnswer
     ensures { result ≡ write_ruled keys numbers len room }
 {
@@ -69,11 +70,9 @@ pub fn judge_write(keys: bool, numbers: Numbers, len: usize, room: usize) -> Wri
 }
 
 // The check that a block is sealed on: before number 0 there is none.
+#[tactic(auto, unfolding(crate::specs::Answers::last_for))]
 pub fn last_for(number: u32, previous: [u8; 16]) -> [u8; 16]
     ensures { result ≡ last_for number previous }
 {
-    if number == 0 {
-        return [0u8; 16];
-    }
-    previous
+    if number == 0 { [0; 16] } else { previous }
 }
