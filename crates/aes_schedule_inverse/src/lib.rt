@@ -1,7 +1,7 @@
 // The inverse schedule, FIPS 197, 5.3.5: the round keys are mixed back, so that lookups can mix the state before a key is added.
 #![tactic(auto)]
 
-ghost use Rattle.std.specs.Prelude.{◌≡◌, ◌≤◌, length};
+ghost use Rattle.std.specs.Prelude.{◌≡◌};
 ghost use Rattle.aes_spec.specs.Model.{mixed_back, inverse_schedule};
 
 use aes_mix::inv_mix_column;
@@ -26,12 +26,11 @@ pub fn inverse_into(schedule: &KeySchedule, back: &mut KeySchedule)
     invert(back);
 }
 
-// The words of a slice from a place up to another mixed back.
+// The words of a slice from a place up to another mixed back, as far as there are any.
 pub fn mix_back(words: &mut [u32], from: usize, end: usize)
-    requires { end ≤ length words.old }
     ensures { words.new ≡ mixed_back from end words.old }
 {
-    for i in from..end {
+    for i in from..end.min(words.len()) {
         words[i] = inv_mix_column(words[i]);
     }
 }

@@ -55,6 +55,14 @@ module _ (a : ℕ) (w : List ℕ) where
   unfolding mixed_back
   mixed_at b i h = get_d_tabulate (length w) (mixed_back_at a b w) i h
 
+  -- a place past the last word is as good as another
+  pub mixed_past : (b c : ℕ) → length w ≤ b → length w ≤ c → mixed_back a b w ≡ mixed_back a c w
+  unfolding mixed_back
+  mixed_past b c h k = is_tabulate (length w) (mixed_back_at a c w) (mixed_back a b w) (length_mixed b) (λ i l. mixed_at b i l ∙ same i l)
+    where
+      same : (i : ℕ) → i < length w → mixed_back_at a b w i ≡ mixed_back_at a c w i
+      same i l = rw (lt-ltb i b (omega arith), lt-ltb i c (omega arith))
+
   -- none, and one more
   pub mixed_none : (b : ℕ) → b ≤ a → w ≡ mixed_back a b w
   unfolding mixed_back

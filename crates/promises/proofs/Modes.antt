@@ -119,13 +119,13 @@ pub whole_pieces_asks_nothing : (κs : _) (a : _) → whole_pieces.Asked κs a
 whole_pieces_asks_nothing κs a = tt
 
 pub whole_pieces_determined : (κs : _) (a : _) (r r' : _) (s s' : _) → whole_pieces.Post κs a r s → whole_pieces.Post κs a r' s'
-    → (r ≡ r') × (s.1.1.1.1.1.0.now ≡ s'.1.1.1.1.1.0.now)
+    → (r ≡ r') × (s.1.1.1.1.0.now ≡ s'.1.1.1.1.0.now)
 whole_pieces_determined κs a r r' s s' p q = let e = p ∙ sym q in (ap (λ (x : List ℕ × List ℕ). x.0) e, ap (λ (x : List ℕ × List ℕ). x.1) e)
 
 -- a run through whole pieces refuses nothing; where input and output have none in common it leaves the output as it was
 pub whole_pieces_refused_keeps : (κs : _) (a : _) (r : _) (s : _) → whole_pieces.Post κs a r s
-    → min (length a.1.1.1.1.0.now) (length a.1.1.1.1.1.0.now) / 16 ≡ 0
-    → s.1.1.1.1.1.0.now ≡ a.1.1.1.1.1.0.now
+    → min (length a.1.1.1.0.now) (length a.1.1.1.1.0.now) / 16 ≡ 0
+    → s.1.1.1.1.0.now ≡ a.1.1.1.1.0.now
 unfolding output_of
 whole_pieces_refused_keeps κs a r s p e = ap (λ (x : List ℕ × List ℕ). x.1) p ∙ rw e
 
@@ -133,13 +133,13 @@ pub run_asks_nothing : (κs : _) (a : _) → run.Asked κs a
 run_asks_nothing κs a = tt
 
 pub run_determined : (κs : _) (a : _) (r r' : _) (s s' : _) → run.Post κs a r s → run.Post κs a r' s'
-    → (r ≡ r') × (s.1.1.1.1.1.0.now ≡ s'.1.1.1.1.1.0.now)
+    → (r ≡ r') × (s.1.1.1.1.0.now ≡ s'.1.1.1.1.0.now)
 run_determined κs a r r' s s' p q = let e = p ∙ sym q in (ap (λ (x : List ℕ × List ℕ). x.0) e, ap (λ (x : List ℕ × List ℕ). x.1) e)
 
 -- a run refuses nothing; where input and output have nothing in common that it takes it leaves the output as it was
 pub run_refused_keeps : (κs : _) (a : _) (r : _) (s : _) → run.Post κs a r s
-    → reach a.1.1.0 (length a.1.1.1.1.0.now) (length a.1.1.1.1.1.0.now) ≡ 0
-    → s.1.1.1.1.1.0.now ≡ a.1.1.1.1.1.0.now
+    → reach a.1.0 (length a.1.1.1.0.now) (length a.1.1.1.1.0.now) ≡ 0
+    → s.1.1.1.1.0.now ≡ a.1.1.1.1.0.now
 unfolding run_over output_of
 run_refused_keeps κs a r s p e = ap (λ (x : List ℕ × List ℕ). x.1) p ∙ rw e
 
@@ -282,19 +282,19 @@ lent_through o w nr words l iv inp out = by (inverts o) refl
     by false e = rw (l.forth e) (through_forward w (inverse_words w nr) nr o iv inp out e)
 
 -- with that one lent, a run over an input that the operation takes is the operation under AES; it hands on the chaining value
-pub run_is_the_mode : (κs : _) (a : _) (r : _) (s : _) → run.Post κs a r s → (w : List ℕ) → length w ≡ 60 → round_count a.1.0 ≡ true
-    → Lends a.1.1.0 w a.1.0 a.0.now → ChainOf 16 a.1.1.0 a.1.1.1.0
-    → Bytes a.1.1.1.1.0.now → Takes a.1.1.0 (length a.1.1.1.1.0.now) → length a.1.1.1.1.0.now ≤ length a.1.1.1.1.1.0.now
-    → (r ≡ handed_on 16 (standard w a.1.0) a.1.1.0 a.1.1.1.0 a.1.1.1.1.0.now)
-    × (s.1.1.1.1.1.0.now ≡ over (moded 16 (standard w a.1.0) a.1.1.0 a.1.1.1.0 a.1.1.1.1.0.now) a.1.1.1.1.1.0.now)
+pub run_is_the_mode : (κs : _) (a : _) (r : _) (s : _) → run.Post κs a r s → (w : List ℕ) → length w ≡ 60 → round_count a.0.now.rounds ≡ true
+    → Lends a.1.0 w a.0.now.rounds a.0.now.words → ChainOf 16 a.1.0 a.1.1.0
+    → Bytes a.1.1.1.0.now → Takes a.1.0 (length a.1.1.1.0.now) → length a.1.1.1.0.now ≤ length a.1.1.1.1.0.now
+    → (r ≡ handed_on 16 (standard w a.0.now.rounds) a.1.0 a.1.1.0 a.1.1.1.0.now)
+    × (s.1.1.1.1.0.now ≡ over (moded 16 (standard w a.0.now.rounds) a.1.0 a.1.1.0 a.1.1.1.0.now) a.1.1.1.1.0.now)
 run_is_the_mode κs a r s p w size known l g b h room =
-    let nr = a.1.0 in
-    let o = a.1.1.0 in
-    let iv = a.1.1.1.0 in
-    let inp = a.1.1.1.1.0.now in
-    let out = a.1.1.1.1.1.0.now in
+    let nr = a.0.now.rounds in
+    let o = a.1.0 in
+    let iv = a.1.1.0 in
+    let inp = a.1.1.1.0.now in
+    let out = a.1.1.1.1.0.now in
     let c = equivalent_cipher w (inverse_words w nr) nr in
-    let q : (r, s.1.1.1.1.1.0.now) ≡ run_over c o iv inp out = p ∙ lent_through o w nr a.0.now l iv inp out in
+    let q : (r, s.1.1.1.1.0.now) ≡ run_over c o iv inp out = p ∙ lent_through o w nr a.0.now.words l iv inp out in
     let e = q ∙ through_mode c (standard w nr) (equivalent_agrees w size nr) (aes_lawful w nr known) o iv inp g b h out room in
     (ap (λ (x : List ℕ × List ℕ). x.0) e, ap (λ (x : List ℕ × List ℕ). x.1) e)
 

@@ -1,12 +1,14 @@
 use mathlib.Core.Path.{◌≡◌, refl, ap, ◌∙◌}
 use mathlib.Core.List.{List}
-use Prim.Native.Nat.{ℕ, ◌+◌, min}
+use mathlib.Core.Logic.{◌⊎◌, ⊎_elim}
+use Prim.Native.Nat.{ℕ, ◌+◌, ◌≤◌, ◌<◌, min}
 use native.Mathlib.Omega.{arith}
 use borrow.Author.Rules.{rules}
-use lib.ListN.{get_or, set, length-set}
+use lib.ListN.{length, get_or, set, length-set}
+use Rattle.octets.proofs.Xor.{lt_or_le}
 use Rattle.aes_mix.specs.Mixing.{inv_mix_column}
 use Rattle.aes_spec.specs.Model.{mixed_back}
-use Rattle.aes_spec.proofs.Equivalent.{mixed_none, mixed_more}
+use Rattle.aes_spec.proofs.Equivalent.{mixed_none, mixed_more, mixed_past}
 use Rattle.aes_schedule_inverse.proofs.mix_back.Goals as goal
 
 pub loop-i-init : goal.loop-i-init
@@ -28,6 +30,11 @@ loop-i-preserved c = let l = c.loop-i in
     )
 
 pub returns : goal.returns
-returns c = let l = c.loop-i in
-    let e : min l.i c.args.end ≡ c.args.end = omega arith in
-    rw e at l.invariant.1.1
+returns c =
+    let l = c.loop-i in
+    let a = c.args in
+    let w = a.words.now in
+    ⊎_elim
+    (λ (h : a.end < length w). (let e : min l.i a.end ≡ a.end = omega (arith, h) in rw e at l.invariant.1.1))
+    (λ (h : length w ≤ a.end). l.invariant.1.1 ∙ mixed_past a.from w (min l.i a.end) a.end (omega (arith, h)) h)
+    (lt_or_le a.end (length w))

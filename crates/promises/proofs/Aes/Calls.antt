@@ -23,7 +23,9 @@ use Rattle.aes_mix.proofs.mix_column.Reads as mix_column
 use Rattle.aes_mix.proofs.inv_mix_column.Reads as inv_mix_column
 use Rattle.aes_expand.proofs.expand_into.Reads as expand_into
 use Rattle.aes_schedule.proofs.KeySchedule.new.Reads as new
-use Rattle.aes_schedule.proofs.schedule_into.Reads as schedule_into
+use Rattle.aes_schedule.proofs.KeySchedule.none.Reads as no-schedule
+use Rattle.aes_schedule.proofs.KeySchedule.expand.Reads as expand
+use Rattle.aes_schedule.proofs.KeySchedule.is_usable.Reads as is_usable
 use Rattle.aes_schedule.proofs.answer_of.Reads as answer_of
 use Rattle.aes_schedule.proofs.is_round_count.Reads as is_round_count
 use Rattle.aes_words.proofs.word_bytes.Reads as word_bytes
@@ -37,7 +39,8 @@ use Rattle.aes_rounds.proofs.encrypt_block.Reads as encrypt_block
 use Rattle.aes_rounds.proofs.absorb.Reads as absorb
 use Rattle.aes_rounds_inverse.proofs.decrypt_block.Reads as decrypt_block
 use Rattle.aes_schedule_inverse.proofs.invert.Reads as invert
-use Rattle.aes_schedule_inverse.proofs.inverse_words.Reads as inverse-words
+use Rattle.aes_schedule_inverse.proofs.inverse_into.Reads as inverse_into
+use Rattle.aes_schedule_inverse.proofs.mix_back.Reads as mix_back
 use Rattle.aes_lookup_forward.proofs.forward_at.Reads as forward_at
 use Rattle.aes_lookup_inverse.proofs.inverse_at.Reads as inverse-at
 use Rattle.aes_lookup_sbox.proofs.sub_at.Reads as sub_at
@@ -231,20 +234,32 @@ pub expand_into_refused_keeps : (κs : _) (a : _) (r : _) (s : _) → expand_int
 unfolding expanded_over
 expand_into_refused_keeps κs a r s p e = p ∙ rw e
 
-pub schedule_into_asks_nothing : (κs : _) (a : _) → schedule_into.Asked κs a
-schedule_into_asks_nothing κs a = tt
+pub no_schedule_asks_nothing : (κs : _) (a : _) → no-schedule.Asked κs a
+no_schedule_asks_nothing κs a = tt
 
--- exception: aes_schedule::schedule_into: it writes all 60 words, zeros for a key that is refused, and what was there plays no part
-pub schedule_into_determined : (κs : _) (a : _) (r r' : _) (s s' : _) → schedule_into.Post κs a r s → schedule_into.Post κs a r' s' → (r ≡ r') × (s.1.0.now ≡ s'.1.0.now)
-schedule_into_determined κs a r r' s s' p q = (p.0 ∙ sym q.0, p.1 ∙ sym q.1)
+pub no_schedule_determined : (κs : _) (a : _) (r r' : _) (s s' : _) → no-schedule.Post κs a r s → no-schedule.Post κs a r' s' → r ≡ r'
+no_schedule_determined κs a r r' s s' p q = p ∙ sym q
+
+pub is_usable_asks_nothing : (κs : _) (a : _) → is_usable.Asked κs a
+is_usable_asks_nothing κs a = tt
+
+pub is_usable_determined : (κs : _) (a : _) (r r' : _) (s s' : _) → is_usable.Post κs a r s → is_usable.Post κs a r' s' → r ≡ r'
+is_usable_determined κs a r r' s s' p q = p ∙ sym q
+
+pub expand_asks_nothing : (κs : _) (a : _) → expand.Asked κs a
+expand_asks_nothing κs a = tt
+
+-- exception: aes_schedule::KeySchedule::expand: it writes the whole schedule, that of no key for a key that is refused, and what was there plays no part
+pub expand_determined : (κs : _) (a : _) (r r' : _) (s s' : _) → expand.Post κs a r s → expand.Post κs a r' s' → (r ≡ r') × (s.0.now ≡ s'.0.now)
+expand_determined κs a r r' s s' p q = (p.0 ∙ sym q.0, p.1 ∙ sym q.1)
 
 pub absorb_asks_nothing : (κs : _) (a : _) → absorb.Asked κs a
 absorb_asks_nothing κs a = tt
 
-pub absorb_determined : (κs : _) (a : _) (r r' : _) (s s' : _) → absorb.Post κs a r s → absorb.Post κs a r' s' → s.1.1.0.now ≡ s'.1.1.0.now
+pub absorb_determined : (κs : _) (a : _) (r r' : _) (s s' : _) → absorb.Post κs a r s → absorb.Post κs a r' s' → s.1.0.now ≡ s'.1.0.now
 absorb_determined κs a r r' s s' p q = p ∙ sym q
 
-pub absorb_refused_keeps : (κs : _) (a : _) (r : _) (s : _) → absorb.Post κs a r s → fits (length a.1.1.1.0.now) a.1.1.1.1.0 ≡ false → s.1.1.0.now ≡ a.1.1.0.now
+pub absorb_refused_keeps : (κs : _) (a : _) (r : _) (s : _) → absorb.Post κs a r s → fits (length a.1.1.0.now) a.1.1.1.0 ≡ false → s.1.0.now ≡ a.1.0.now
 absorb_refused_keeps κs a r s p e = p ∙ rw e
 
 pub invert_asks_nothing : (κs : _) (a : _) → invert.Asked κs a
@@ -253,16 +268,23 @@ invert_asks_nothing κs a = tt
 pub invert_determined : (κs : _) (a : _) (r r' : _) (s s' : _) → invert.Post κs a r s → invert.Post κs a r' s' → s.0.now ≡ s'.0.now
 invert_determined κs a r r' s s' p q = p ∙ sym q
 
-pub invert_refused_keeps : (κs : _) (a : _) (r : _) (s : _) → invert.Post κs a r s → round_count a.1.0 ≡ false → s.0.now ≡ a.0.now
+pub invert_refused_keeps : (κs : _) (a : _) (r : _) (s : _) → invert.Post κs a r s → round_count a.0.now.rounds ≡ false → s.0.now ≡ a.0.now
 unfolding inverse_words
 invert_refused_keeps κs a r s p e = p ∙ rw e
 
-pub inverse_words_asks_nothing : (κs : _) (a : _) → inverse-words.Asked κs a
-inverse_words_asks_nothing κs a = tt
+pub inverse_into_asks_nothing : (κs : _) (a : _) → inverse_into.Asked κs a
+inverse_into_asks_nothing κs a = tt
 
--- exception: aes_schedule_inverse::inverse_words: it refuses nothing and writes all 60 words, and what was there plays no part
-pub inverse_words_determined : (κs : _) (a : _) (r r' : _) (s s' : _) → inverse-words.Post κs a r s → inverse-words.Post κs a r' s' → s.1.1.0.now ≡ s'.1.1.0.now
-inverse_words_determined κs a r r' s s' p q = p ∙ sym q
+-- exception: aes_schedule_inverse::inverse_into: it refuses nothing and writes the whole schedule, and what was there plays no part
+pub inverse_into_determined : (κs : _) (a : _) (r r' : _) (s s' : _) → inverse_into.Post κs a r s → inverse_into.Post κs a r' s' → s.1.0.now ≡ s'.1.0.now
+inverse_into_determined κs a r r' s s' p q = p ∙ sym q
+
+pub mix_back_asks_nothing : (κs : _) (a : _) → mix_back.Asked κs a
+mix_back_asks_nothing κs a = tt
+
+-- exception: aes_schedule_inverse::mix_back: it refuses nothing, and leaves the words outside its two places as they were
+pub mix_back_determined : (κs : _) (a : _) (r r' : _) (s s' : _) → mix_back.Post κs a r s → mix_back.Post κs a r' s' → s.0.now ≡ s'.0.now
+mix_back_determined κs a r r' s s' p q = p ∙ sym q
 
 pub both_taken_asks_nothing : (κs : _) (a : _) → both-taken.Asked κs a
 both_taken_asks_nothing κs a = tt
