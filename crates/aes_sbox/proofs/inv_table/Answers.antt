@@ -4,4 +4,4 @@ use Rattle.aes_sbox.proofs.inv_table.Goals as goal
 
 pub returns : goal.returns
 unfolding inv_s_box_table
-returns c = inv_s_box-table
+returns c = cc inv_s_box-table

@@ -4,4 +4,4 @@ use Rattle.aes_sbox.proofs.table.Goals as goal
 
 pub returns : goal.returns
 unfolding s_box_table
-returns c = s_box-table
+returns c = cc s_box-table
