@@ -14,6 +14,7 @@ use Rattle.aes_spec.specs.Cipher.{cipher, inv_cipher, encrypt_block, decrypt_blo
 use Rattle.aes_spec.proofs.Padding.{cipher_padded, inv_cipher_padded}
 use Rattle.aes_spec.proofs.Aes.{key_lawful}
 use Rattle.cmac_spec.specs.Cmac.{doubled, key1, key2, cmac, cmac_by, SameOutside}
+use Rattle.cmac_subkeys.specs.declared.Subkeys.{Subkeys}
 use Rattle.cmac_run.specs.Running.{begun}
 use Rattle.cmac.specs.Calls.{checked_by, check_of, started_by, start_of, fed_with, close_of, fed_parts}
 use Rattle.cmac.specs.declared.Record.{Record}
@@ -25,9 +26,8 @@ use Rattle.cmac.proofs.Parts.{running_whole, close_zeros, cmac_zeros}
 use Rattle.promises.proofs.Aes.Keys.{KeySays, IsKeySize, told, taken_then}
 use Rattle.promises.proofs.Aes.Cipher.{KeySize, NoKeySize, sized, unsized, known_rounds, expanded}
 use Rattle.cmac_subkeys.proofs.piece_filled.Reads as piece_filled
-use Rattle.cmac_subkeys.proofs.key1.Reads as first_subkey
-use Rattle.cmac_subkeys.proofs.key2.Reads as second_subkey
-use Rattle.cmac_subkeys.proofs.last.Reads as last
+use Rattle.cmac_subkeys.proofs.Subkeys.new.Reads as subkeys_new
+use Rattle.cmac_subkeys.proofs.Subkeys.last.Reads as last
 use Rattle.cmac.proofs.check.Reads as check
 use Rattle.cmac.proofs.start.Reads as start
 use Rattle.cmac.proofs.fed_with.Reads as fed-with
@@ -93,19 +93,21 @@ piece_filled_asks_nothing κs a = tt
 pub piece_filled_determined : (κs : _) (a : _) (r r' : _) (s s' : _) → piece_filled.Post κs a r s → piece_filled.Post κs a r' s' → r ≡ r'
 piece_filled_determined κs a r r' s s' p q = p ∙ sym q
 
-pub key1_asks_nothing : (κs : _) (a : _) → first_subkey.Asked κs a
-key1_asks_nothing κs a = tt
+pub subkeys_new_asks_nothing : (κs : _) (a : _) → subkeys_new.Asked κs a
+subkeys_new_asks_nothing κs a = tt
 
-pub key1_determined : (κs : _) (a : _) (r r' : _) (s s' : _) → first_subkey.Post κs a r s → first_subkey.Post κs a r' s' → r ≡ r'
-key1_determined κs a r r' s s' p q = p ∙ sym q
+pub subkeys_new_determined : (κs : _) (a : _) (r r' : _) (s s' : _) → subkeys_new.Post κs a r s → subkeys_new.Post κs a r' s' → r ≡ r'
+subkeys_new_determined κs a r r' s s' p q = p ∙ sym q
 
-pub key2_asks_nothing : (κs : _) (a : _) → second_subkey.Asked κs a
-key2_asks_nothing κs a = tt
+-- the first subkey is the cipher's, and the second is the first doubled
+pub subkeys_new_makes : (κs : _) (a : _) (r : _) (s : _) → subkeys_new.Post κs a r s
+    → (r.key1 ≡ key1 (standard a.0.now.words a.0.now.rounds)) × (r.key2 ≡ doubled r.key1)
+unfolding key2
+subkeys_new_makes κs a r s p =
+    let k = ap (λ (x : Subkeys). x.key1) p in
+    (k, ap (λ (x : Subkeys). x.key2) p ∙ ap doubled (sym k))
 
-pub key2_determined : (κs : _) (a : _) (r r' : _) (s s' : _) → second_subkey.Post κs a r s → second_subkey.Post κs a r' s' → r ≡ r'
-key2_determined κs a r r' s s' p q = p ∙ sym q
-
--- the subkeys that these two calls make are those of the standard, and a check that is closed with them is CMAC
+-- two such subkeys are those of the standard, and a check that is closed with them is CMAC
 pub subkeys_are_the_standards : (c : BlockCipher) (k1 k2 : List ℕ) → k1 ≡ key1 c → k2 ≡ doubled k1 → (m : List ℕ) → cmac_by c k1 k2 m ≡ cmac c m
 unfolding key2
 subkeys_are_the_standards c k1 k2 p q m = ap₂ (λ (x y : List ℕ). cmac_by c x y m) p (q ∙ ap doubled p) ∙ cmac-by c m
@@ -158,7 +160,10 @@ unfolding start_of
 start_takes κs a r s p size e = ap (λ (x : Started). key_number x.answer) p ∙ size_taken a.0.now size e
 
 abbrev pub zero_record : Record
-zero_record = record { words = replicate 60 0; rounds = 0; chain = replicate 16 0; held = replicate 16 0; count = 0 }
+zero_record = record {
+  schedule = record { words = replicate 60 0; rounds = 0 };
+  run = record { chain = replicate 16 0; held = replicate 16 0; count = 0 };
+}
 
 pub start_refuses : (κs : _) (a : _) (r : _) (s : _) → start.Post κs a r s → NoKeySize (length a.0.now)
     → (key_number r.answer ≡ 1) × (r.«record» ≡ zero_record)
@@ -168,15 +173,15 @@ start_refuses κs a r s p h =
     (ap (λ (x : Started). key_number x.answer) t, ap (λ (x : Started). x.«record») t)
 
 -- a record whose number of rounds no key gives is closed to zeros, whatever it was fed
-pub close_of_no_key : (κs : _) (a : _) (r : _) (s : _) → close.Post κs a r s → round_count a.0.rounds ≡ false → r ≡ replicate 16 0
+pub close_of_no_key : (κs : _) (a : _) (r : _) (s : _) → close.Post κs a r s → round_count a.0.schedule.rounds ≡ false → r ≡ replicate 16 0
 close_of_no_key κs a r s p e = p ∙ close_zeros a.0 e
 
 -- and so is a check made under such a schedule
-pub check_with_of_no_key : (κs : _) (a : _) (r : _) (s : _) → check_with.Post κs a r s → round_count a.1.0 ≡ false → r ≡ replicate 16 0
-check_with_of_no_key κs a r s p e = p ∙ cmac_zeros a.0.now a.1.0 a.1.1.0.now e
+pub check_with_of_no_key : (κs : _) (a : _) (r : _) (s : _) → check_with.Post κs a r s → round_count a.0.now.rounds ≡ false → r ≡ replicate 16 0
+check_with_of_no_key κs a r s p e = p ∙ cmac_zeros a.0.now.words a.0.now.rounds a.1.0.now e
 
 -- and under a schedule that a key gives it is CMAC under AES of that schedule
-pub check_with_is_cmac : (κs : _) (a : _) (r : _) (s : _) → check_with.Post κs a r s → r ≡ cmac (standard a.0.now a.1.0) a.1.1.0.now
+pub check_with_is_cmac : (κs : _) (a : _) (r : _) (s : _) → check_with.Post κs a r s → r ≡ cmac (standard a.0.now.words a.0.now.rounds) a.1.0.now
 check_with_is_cmac κs a r s p = p
 
 -- the running check is the whole one, for any parts that the message is cut into, none and empty ones too
