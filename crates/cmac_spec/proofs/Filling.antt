@@ -1,17 +1,15 @@
--- A piece filled up from what is held and what comes, the last piece, and a number shifted. Assumes nothing.
-use mathlib.Core.Path.{◌≡◌, refl, sym, ap, ◌∙◌}
-use mathlib.Core.Bool.{Bool, true, false, cond}
+-- A piece filled up from what is held and what comes, and the last piece. Assumes nothing.
+use mathlib.Core.Path.{◌≡◌, sym, ap, ◌∙◌}
 use mathlib.Core.List.{List, [], ◌∷◌, ◌++◌}
-use Prim.Native.Nat.{ℕ, ◌+◌, ◌-◌, ◌*◌, ◌/◌, ◌%◌, ◌≤◌, ◌<◌}
+use Prim.Native.Nat.{ℕ, ◌-◌, ◌≤◌, ◌<◌}
 use native.Mathlib.Omega.{arith}
-use lib.Dec.{ltb}
-use borrow.Author.Tests.{ltb-true, ltb-false, eq-eqb, ne_eqb}
-use lib.ListN.{length, get_or, take, drop, length-append, length-drop, length-take, set, get_or-append, get_or-eq_default}
-use lib.Seq.{length-take-le, take_all, get_or-take, get_or-append-add}
+use borrow.Author.Tests.{eq-eqb, ne_eqb}
+use lib.ListN.{length, get_or, take, drop, length-append, length-drop, length-take}
+use lib.Seq.{length-take-le, take_all, get_or-take}
 use Rattle.octets.specs.Octets.{pad_to, tabulate}
 use Rattle.octets.specs.Blocks.{◌⊕◌}
-use Rattle.octets.proofs.Fill.{Filled, filled_more, filled_all, is_tabulate, get_d_pad_to, length_pad_to}
-use Rattle.cmac_spec.specs.Cmac.{shifted, padded, last_by}
+use Rattle.octets.proofs.Fill.{is_tabulate, get_d_pad_to, length_pad_to}
+use Rattle.cmac_spec.specs.Cmac.{padded, last_by}
 
 -- the first 16 bytes, and zeros past the end
 abbrev pub piece : List ℕ → List ℕ
@@ -41,19 +39,6 @@ module _ (held : List ℕ) (size : length held ≡ 16) where
   pub held-length : (count : ℕ) → length (take count held) ≡ 16 - (16 - count)
   held-length count = omega (arith, length-take count held)
 
-  pub filled_byte : (count : ℕ) (part : List ℕ) (k : ℕ) → k < 16
-      → cond (ltb k count) (get_or held k 0) (get_or part (k - count) 0) ≡ get_or (take count held ++ part) k 0
-  filled_byte count part k h = go (ltb k count) refl
-    where
-      go : (t : Bool) → ltb k count ≡ t → cond t (get_or held k 0) (get_or part (k - count) 0) ≡ get_or (take count held ++ part) k 0
-      go true e =
-          let l = ltb-true k count e in
-          sym (get_or-append (take count held) part 0 k (omega (arith, held-length count)) ∙ get_or-take count held k 0 l)
-      go false e =
-          let l = ltb-false k count e in
-          let m : k ≡ length (take count held) + (k - count) = omega (arith, held-length count) in
-          sym (ap (λ (j : ℕ). get_or (take count held ++ part) j 0) m ∙ get_or-append-add (take count held) part (k - count) 0)
-
   -- ---- the last piece
 
   pub last_short : (k1 k2 : List ℕ) (count : ℕ) → count < 16 → k2 ⊕ piece (take count held ++ (128 ∷ [])) ≡ last_by k1 k2 (take count held)
@@ -64,13 +49,3 @@ module _ (held : List ℕ) (size : length held ≡ 16) where
 
   pub last_full : (k1 k2 : List ℕ) (count : ℕ) → 16 ≤ count → k1 ⊕ held ≡ last_by k1 k2 (take count held)
   last_full k1 k2 count h = rw (take_all count held (omega arith), eq-eqb (length held) 16 size)
-
--- ---- a number shifted
-
--- the last byte gets nothing from a byte after it
-pub shifted_end : (s left : List ℕ) (i v : ℕ) → length s ≡ 16 → i ≡ 15 → Filled 16 (λ k. get_or s k 0 % 128 * 2 + get_or s (k + 1) 0 / 128) left i
-    → v ≡ get_or s 15 0 % 128 * 2 + 0 / 128 → set left 15 v ≡ shifted s
-unfolding shifted
-shifted_end s left i v size e w q =
-    let none : get_or s 16 0 ≡ 0 = get_or-eq_default s 0 (omega arith) in
-    filled_all (filled_more (rw e at w) (omega arith) v (q ∙ rw none)) (omega arith)

@@ -3,7 +3,7 @@
 
 mod doubling;
 
-ghost use Rattle.std.specs.Prelude.{cond, ◌≡◌, ◌++◌, ◌-◌, get_or, take, ltb};
+ghost use Rattle.std.specs.Prelude.{◌≡◌, ◌++◌, take};
 ghost use Rattle.octets.specs.Octets.{pad_to};
 ghost use Rattle.aes_spec.specs.Cipher.{standard};
 ghost use Rattle.cmac_spec.specs.Cmac as spec;
@@ -18,10 +18,11 @@ use octets_block::xor;
 pub fn piece_filled(held: [u8; 16], count: usize, part: &[u8]) -> [u8; 16]
     ensures { result ≡ pad_to 16 (take 16 (take count held ++ part.now)) }
 {
-    let mut piece = [0u8; 16];
-    for i in 0..16 {
-        piece[i] = byte_of(held[i], count, part, i);
-    }
+    let from_held = count.min(16);
+    let from_part = part.len().min(16 - from_held);
+    let mut piece = [0; 16];
+    piece[..from_held].copy_from_slice(&held[..from_held]);
+    piece[from_held..from_held + from_part].copy_from_slice(&part[..from_part]);
     piece
 }
 
@@ -53,17 +54,4 @@ impl Subkeys {
             xor(self.key1, held)
         }
     }
-}
-
-fn byte_of(held: u8, count: usize, part: &[u8], i: usize) -> u8
-    ensures { result ≡ cond (ltb i count) held (get_or part.now (i - count) 0) }
-{
-    if i < count {
-        return held;
-    }
-    let at = i - count;
-    if at < part.len() {
-        return part[at];
-    }
-    0
 }

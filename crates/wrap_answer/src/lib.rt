@@ -11,6 +11,9 @@ ghost use Rattle.wrap_answer.specs.Answers.{wrap_number, wrapped_size_fits, size
 use aes_schedule::KeyAnswer;
 use octets_slice::{equal, part};
 
+// What A begins with, and what is to come back (2.2.3.1).
+pub const INITIAL_VALUE: [u8; 8] = [0xa6; 8];
+
 // The case of the call, or why it was refused.
 #[derive(Clone, Copy)]
 pub enum WrapAnswer {
@@ -39,63 +42,49 @@ impl WrapAnswer {
 pub fn wrapped_size_fits(len: usize) -> bool
     ensures { result ≡ wrapped_size_fits len }
 {
-    if len < 24 {
-        return false;
-    }
-    if len > 72 {
-        return false;
-    }
-    len % 8 == 0
+    (24..=72).contains(&len) && len % 8 == 0
 }
 
 // Whether key data may have this length.
 fn size_fits(len: usize) -> bool
     ensures { result ≡ size_fits_of len }
 {
-    if len < 16 {
-        return false;
-    }
-    if len > 64 {
-        return false;
-    }
-    len % 8 == 0
+    (16..=64).contains(&len) && len % 8 == 0
 }
 
 // The answer of wrapping, from that for the key and the lengths of data and output.
 pub fn judge_wrap(key: KeyAnswer, len: usize, room: usize) -> WrapAnswer
     ensures { result ≡ wrap_ruled (key_number key) (size_fits_of len) (len + 8) room WrapDone }
 {
-    let KeyAnswer::Taken = key else {
-        return WrapAnswer::WrapKey;
-    };
-    if !size_fits(len) {
-        return WrapAnswer::WrapSize;
-    }
-    if room < len + 8 {
-        return WrapAnswer::WrapRoom;
-    }
-    WrapAnswer::WrapDone
+    judge(key, size_fits(len), len.saturating_add(8), room)
 }
 
 // The answer of unwrapping, except for what only the unwrapped registers can tell.
 pub fn judge_unwrap(key: KeyAnswer, len: usize, room: usize) -> WrapAnswer
     ensures { result ≡ wrap_ruled (key_number key) (wrapped_size_fits len) (len - 8) room WrapDone }
 {
-    let KeyAnswer::Taken = key else {
-        return WrapAnswer::WrapKey;
-    };
-    if !wrapped_size_fits(len) {
-        return WrapAnswer::WrapSize;
+    judge(key, wrapped_size_fits(len), len.saturating_sub(8), room)
+}
+
+// The tests of both calls in their order: the key, the length of the data, the room for what is made of it.
+#[tactic(auto, unfolding(crate::specs::Answers::wrap_ruled))]
+fn judge(key: KeyAnswer, size_fits: bool, needed: usize, room: usize) -> WrapAnswer
+    ensures { result ≡ wrap_ruled (key_number key) size_fits needed room WrapDone }
+{
+    if !matches!(key, KeyAnswer::Taken) {
+        WrapAnswer::WrapKey
+    } else if !size_fits {
+        WrapAnswer::WrapSize
+    } else if room < needed {
+        WrapAnswer::WrapRoom
+    } else {
+        WrapAnswer::WrapDone
     }
-    if room < len - 8 {
-        return WrapAnswer::WrapRoom;
-    }
-    WrapAnswer::WrapDone
 }
 
 // Whether A is the initial value: all eight bytes are compared before the answer.
 pub fn is_initial(w: &[u8]) -> bool
     ensures { result ≡ same (register w.now 0) initial }
 {
-    equal(part(w, 0, 8), &[0xa6u8; 8])
+    equal(part(w, 0, 8), &INITIAL_VALUE)
 }
