@@ -1,43 +1,78 @@
--- Laws on the words of a line, one turn of a loop each. Assumes nothing.
-use Prim.Native.Nat.{ℕ, suc, ◌+◌, ◌-◌, ◌≤◌, ◌<◌}
-use mathlib.Core.Path.{◌≡◌, refl, ap}
-use mathlib.Core.Bool.{Bool, true, false, cond}
-use mathlib.Core.List.{List, [], ◌∷◌}
-use native.Mathlib.Omega.{arith}
-use native.Mathlib.Numerals.{add-one}
-use lib.ListN.{length, take, drop, get_or, drop_of_length-le}
-use lib.Seq.{drop-cons, drop-drop}
-use lib.Dec.{eqb}
-use borrow.Author.Tests.{eq-eqb, ne_eqb}
-use Rattle.text_words.specs.Words.{before, after, end_of, rest_of, word_of, word_count}
+-- The words of a line as the parts between its spaces. Assumes nothing.
+use Rattle.std.proofs.Common.{◌≡◌, ℕ, zero, suc, ◌+◌, Bor, Option, None, Some, Bool, true, false, cond, List, [], ◌∷◌, length, take, drop, get_or, eqb, not, refl, sym, ap, ◌∙◌, arith}
+use Rattle.std.specs.List.{slice_split, slice_get, onto_first, position, position_or_len}
+use Rattle.std.specs.Option.{option_map, unwrap_or}
+use Rattle.std.proofs.lemmas.Bool.Decides.{nat_tests}
+use Rattle.std.proofs.lemmas.List.Sums.{prefix_len-le-length}
+use Rattle.std.proofs.lemmas.Option.{unwrap_or-slice_get}
+use Rattle.std.proofs.lemmas.List.Splits.{length-slice_split}
+use Rattle.std.proofs.lemmas.List.Sums.{sum_by-cons}
+use Rattle.text_words.specs.Words.{before, after, rest_of, word_of, word_count}
 
-module _ (s : List ℕ) (i : ℕ) (h : i < length s) where
-  pub end_more : (b : ℕ) → (get_or s i 0 ≡ b → ⊥) → end_of b s (i + 1) ≡ end_of b s i
-  unfolding before
-  end_more b p =
-      let e : before b (drop i s) ≡ get_or s i 0 ∷ before b (drop (suc i) s) = rw (drop-cons s i 0 h, ne_eqb (get_or s i 0) b p) in
-      rw (e, add-one) (omega arith)
+-- the parts of a line between its spaces
+abbrev pub parts : List ℕ → List (List ℕ)
+parts s = slice_split (λ b. eqb b 32) s
 
-  pub end_here : (b : ℕ) → get_or s i 0 ≡ b → i ≡ end_of b s i
-  unfolding before
-  end_here b p = rw (drop-cons s i 0 h, eq-eqb (get_or s i 0) b p) (omega arith)
+nothing_at : (k : ℕ) → get_or (parts []) k [] ≡ []
+nothing_at zero = refl
+nothing_at (suc k) = refl
 
-  pub count_space : get_or s i 0 ≡ 32 → word_count (drop i s) ≡ 1 + word_count (drop (i + 1) s)
-  unfolding word_count
-  count_space p = rw (add-one, drop-cons s i 0 h, eq-eqb (get_or s i 0) 32 p)
+onto_at : (c : ℕ) (t : List (List ℕ)) → (get_or (onto_first c t) 0 [] ≡ c ∷ get_or t 0 []) × ((k : ℕ) → get_or (onto_first c t) (suc k) [] ≡ get_or t (suc k) [])
+onto_at c [] = (refl, λ k. refl)
+onto_at c (x ∷ t) = (refl, λ k. refl)
 
-  pub count_other : (get_or s i 0 ≡ 32 → ⊥) → word_count (drop i s) ≡ word_count (drop (i + 1) s)
-  unfolding word_count
-  count_other p = rw (add-one, drop-cons s i 0 h, ne_eqb (get_or s i 0) 32 p) (omega arith)
+first_part : (s : List ℕ) → before 32 s ≡ get_or (parts s) 0 []
+unfolding before
+first_part [] = refl
+first_part (c ∷ r) = by (first_part r) (eqb c 32)
+  where
+    by : before 32 r ≡ get_or (parts r) 0 [] → (t : Bool) → cond t [] (c ∷ before 32 r) ≡ get_or (cond t ([] ∷ parts r) (onto_first c (parts r))) 0 []
+    by e true = refl
+    by e false = ap (λ w. c ∷ w) e ∙ sym (onto_at c (parts r)).0
 
-module _ (s : List ℕ) (i : ℕ) (h : length s ≤ i) where
-  pub end_end : (b : ℕ) → i ≡ end_of b s i
-  unfolding before
-  end_end b = rw (drop_of_length-le s {i = i} h) (omega arith)
+later_part : (s : List ℕ) (k : ℕ) → get_or (parts (after 32 s)) k [] ≡ get_or (parts s) (suc k) []
+unfolding before after
+later_part [] k = nothing_at k
+later_part (c ∷ r) k = by (later_part r k) (eqb c 32)
+  where
+    by : get_or (parts (after 32 r)) k [] ≡ get_or (parts r) (suc k) [] → (t : Bool) → get_or (parts (drop (suc (length (cond t [] (c ∷ before 32 r)))) (c ∷ r))) k [] ≡ get_or (cond t ([] ∷ parts r) (onto_first c (parts r))) (suc k) []
+    by e true = refl
+    by e false = e ∙ sym ((onto_at c (parts r)).1 k)
 
-  pub count_end : word_count (drop i s) ≡ 1
-  unfolding word_count
-  count_end = rw (drop_of_length-le s {i = i} h)
+pub word_is_part : (k : ℕ) (s : List ℕ) → word_of k s ≡ get_or (parts s) k []
+unfolding word_of rest_of
+word_is_part zero s = first_part s
+word_is_part (suc k) s = word_is_part k (after 32 s) ∙ later_part s k
+
+-- the part that is found, and nothing where there is none
+pub part_or_nothing : (r : Option (Bor (List ℕ))) (d : Bor (List ℕ)) (t : List (List ℕ)) (k : ℕ) → option_map (λ x. x.now) r ≡ slice_get t k → d.now ≡ [] → (unwrap_or r d).now ≡ get_or t k []
+part_or_nothing r d t k e z = by r ∙ rw (e, z) (unwrap_or-slice_get t k [])
+  where
+    by : (o : Option (Bor (List ℕ))) → (unwrap_or o d).now ≡ unwrap_or (option_map (λ x. x.now) o) d.now
+    by None = refl
+    by (Some x) = refl
+
+pub words_are_parts : (s : List ℕ) → word_count s ≡ length (parts s)
+unfolding word_count
+words_are_parts [] = refl
+words_are_parts (c ∷ r) = omega (arith, words_are_parts r, length-slice_split (λ b. eqb b 32) (c ∷ r), length-slice_split (λ b. eqb b 32) r, sum_by-cons (λ b. cond (eqb b 32) 1 0) c r)
+
+-- where a byte is found
+pub before_first_byte : (stop : ℕ) (s : List ℕ) → length (before stop s) ≡ position_or_len (λ b. eqb b stop) s
+unfolding before
+before_first_byte stop [] = refl
+before_first_byte stop (c ∷ r) = by (before_first_byte stop r) (eqb c stop)
+  where
+    by : length (before stop r) ≡ position_or_len (λ b. eqb b stop) r → (t : Bool) → length (cond t [] (c ∷ before stop r)) ≡ cond (not t) (1 + position_or_len (λ b. eqb b stop) r) 0
+    by e true = refl
+    by e false = omega arith
+
+-- the place that is found, or the end
+pub place_or_end : (stop : ℕ) (s : List ℕ) (r : Option ℕ) → r ≡ position (λ b. eqb b stop) s → unwrap_or r (length s) ≡ length (before stop s)
+place_or_end stop s r e =
+    let b = before_first_byte stop s in
+    let p = prefix_len-le-length (λ x. not (eqb x stop)) s in
+    rw e (grind (arith, nat_tests))
 
 take_by : (b c : ℕ) (r : List ℕ) → take (length (before b r)) r ≡ before b r → (t : Bool) → take (length (cond t [] (c ∷ before b r))) (c ∷ r) ≡ cond t [] (c ∷ before b r)
 take_by b c r e true = refl
@@ -48,35 +83,3 @@ pub take_before : (b : ℕ) (s : List ℕ) → take (length (before b s)) s ≡ 
 unfolding before
 take_before b [] = refl
 take_before b (c ∷ r) = take_by b c r (take_before b r) (eqb c b)
-
--- past the next space
-pub past_space : (s : List ℕ) (at e : ℕ) → e ≡ end_of 32 s at → drop (e + 1) s ≡ after 32 (drop at s)
-unfolding after
-past_space s at e p =
-    let q : e + 1 ≡ at + suc (length (before 32 (drop at s))) = omega arith in
-    rw (q, drop-drop)
-
-pub past_end : (s : List ℕ) (at e : ℕ) → e ≡ end_of 32 s at → length s ≤ e → drop (length s) s ≡ after 32 (drop at s)
-past_end s at e p h = rw (drop_of_length-le s {i = length s} (omega arith)) (rw (drop_of_length-le s {i = e + 1} (omega arith)) at (past_space s at e p))
-
--- one word less to go
-pub rest_more : (k i : ℕ) (s t : List ℕ) → i < k → t ≡ after 32 s → rest_of (k - (i + 1)) t ≡ rest_of (k - i) s
-unfolding rest_of
-rest_more k i s t h e =
-    let q : k - i ≡ suc (k - (i + 1)) = omega arith in
-    rw (q, e)
-
-pub rest_end : (k i : ℕ) (s u : List ℕ) → k ≤ i → rest_of (k - i) s ≡ u → s ≡ u
-unfolding rest_of
-rest_end k i s u h e =
-    let q : k - i ≡ 0 = omega arith in
-    rw q at e
-
--- the word that stands where word k begins
-pub word_part : (s : List ℕ) (at e k : ℕ) → e ≡ end_of 32 s at → drop at s ≡ rest_of k s → take (e - at) (drop at s) ≡ word_of k s
-unfolding word_of
-word_part s at e k p q =
-    let d : e - at ≡ length (before 32 (drop at s)) = omega arith in
-    rw (d, take_before 32 (drop at s), q)
-
--- a part of a list, as far as there is any

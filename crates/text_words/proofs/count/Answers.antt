@@ -1,17 +1,12 @@
-use Rattle.text_words.proofs.WordLaws.{count_space, count_other, count_end}
-use native.Mathlib.Omega.{arith}
+use Rattle.std.proofs.Common.{eqb, arith, rules, tests}
+use Rattle.std.proofs.lemmas.Iterator.Consumers.{count_from_yields_List}
+use Rattle.std.proofs.lemmas.Iterator.Splits.{YieldsList-from_slice_split}
+use Rattle.text_words.proofs.WordLaws.{words_are_parts}
 use Rattle.text_words.proofs.count.Goals as goal
-use Rattle.text_words.proofs.count.Goals.{then-line-i-eq32, else-line-i-eq32}
-
-pub loop-i-preserved : goal.loop-i-preserved
-loop-i-preserved c =
-    let l = c.loop-i in
-    let s = c.args.line.now in
-    let h = c.loop-i-test.true in
-    elim c.if-line-i-eq32.branch [
-      | then-line-i-eq32 w ↦ omega (arith, count_space s l.i h w.if-line-i-eq32.true)
-      | else-line-i-eq32 w ↦ omega (arith, count_other s l.i h w.if-line-i-eq32.false)
-    ]
 
 pub returns : goal.returns
-returns c = omega (arith, count_end c.args.line.now c.loop-i.i c.loop-i-test.false)
+returns c =
+    let s = c.args.line.now in
+    let e = c.split.ensures in
+    let n = count_from_yields_List _ _ c.count.ensures.ran (YieldsList-from_slice_split _ (λ b. eqb b 32) s e.rest e.done e.closure (λ x b q k. search (rules, tests))) in
+    omega (arith, n, words_are_parts s)

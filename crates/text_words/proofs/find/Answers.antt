@@ -1,15 +1,16 @@
-use Rattle.text_words.proofs.WordLaws.{end_more, end_here, end_end}
-use mathlib.Core.Path.{refl, ◌∙◌}
+use Rattle.std.proofs.Common.{◌≡◌, ℕ, List, length, eqb, drop, ap, ◌∙◌, rules, tests, arith}
+use Rattle.std.proofs.lemmas.Iterator.{YieldsList-from_slice}
+use Rattle.std.proofs.lemmas.Iterator.Search.{position_from_yields_List}
+use Rattle.std.proofs.lemmas.List.{take_rest}
+use Rattle.text_words.specs.Words.{before}
+use Rattle.text_words.proofs.WordLaws.{place_or_end}
 use Rattle.text_words.proofs.find.Goals as goal
 
-pub loop-i-init : goal.loop-i-init
-loop-i-init c = refl
-
-pub returns-then-s-i : goal.returns-then-s-i
-returns-then-s-i c = end_here _ _ c.loop-i-test.true _ c.if-s-i.true ∙ c.loop-i.invariant
-
-pub loop-i-preserved : goal.loop-i-preserved
-loop-i-preserved c = end_more _ _ c.loop-i-test.true _ c.if-s-i.false ∙ c.loop-i.invariant
-
 pub returns : goal.returns
-returns c = end_end _ _ c.loop-i-test.false _ ∙ c.loop-i.invariant
+returns c =
+    let a = c.args in
+    let t = c.part-rest.result.now in
+    let p = position_from_yields_List (λ b. eqb b a.stop) _ _ c.position.result c.position.ensures.ran (YieldsList-from_slice t cc) (λ x b q k. search (rules, tests)) in
+    let e = place_or_end a.stop t c.position.result p in
+    let d : t ≡ drop a.at a.s.now = c.part-rest.ensures ∙ take_rest a.s.now a.at in
+    omega (arith, c.unwrap_or.ensures, e, ap (λ (l : List ℕ). length (before a.stop l)) d)
