@@ -11,7 +11,6 @@ use Rattle.octets.proofs.Words.{byte_lt, byte_xor, byte0_word, byte1_word, byte2
 use Rattle.aes_words.specs.Columns.{IsDiagonal}
 use Rattle.aes_mix.specs.Mixing.{row, column, mix_column, inv_mix_column}
 use Rattle.aes_mix.proofs.Mix.{row_lt}
-use Rattle.aes_state.specs.Model.{columns}
 use Rattle.aes_spec.specs.State.{aes, sub_bytes, shift_rows, inv_shift_rows, mix_columns, inv_mix_columns, add_round_key}
 
 -- the bytes of four columns
@@ -20,9 +19,6 @@ four a b c d = bytes_of (a ∷ b ∷ c ∷ d ∷ [])
 
 pub same_four : {a b c d a' b' c' d' : ℕ} → a ≡ a' → b ≡ b' → c ≡ c' → d ≡ d' → four a b c d ≡ four a' b' c' d'
 same_four p q u v = rw (p, q, u, v)
-
-pub same_columns : {a b c d a' b' c' d' : ℕ} → a ≡ a' → b ≡ b' → c ≡ c' → d ≡ d' → columns a b c d ≡ columns a' b' c' d'
-same_columns p q u v = rw (p, q, u, v)
 
 bytes_word : (a b c d : ℕ) → a < 256 → b < 256 → c < 256 → d < 256 → (w : List ℕ) → bytes_of (word a b c d ∷ w) ≡ a ∷ b ∷ c ∷ d ∷ bytes_of w
 unfolding bytes_of

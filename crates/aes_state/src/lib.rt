@@ -11,6 +11,7 @@ use aes_words::{join, word_bytes};
 #[derive(Clone, Copy)]
 pub struct Columns(pub u32, pub u32, pub u32, pub u32);
 
+#[tactic(auto, unfolding(crate::specs::Model::columns_of))]
 pub fn columns_of(block: [u8; 16]) -> Columns
     ensures { result ≡ columns_of block }
 {
@@ -22,6 +23,7 @@ pub fn columns_of(block: [u8; 16]) -> Columns
     )
 }
 
+#[tactic(auto, unfolding(octets::specs::Words::bytes_of))]
 pub fn block_of(s: Columns) -> [u8; 16]
     ensures { result ≡ block_of s }
 {
@@ -36,6 +38,7 @@ pub fn block_of(s: Columns) -> [u8; 16]
 }
 
 // Four words as columns.
+#[tactic(auto, using(crate::proofs::Keyed::words_four))]
 pub fn as_columns(t: [u32; 4]) -> Columns
     ensures { block_of result ≡ bytes_of t }
 {
