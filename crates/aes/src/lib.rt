@@ -21,9 +21,10 @@ pub fn encrypt(key: &[u8], block: [u8; 16]) -> Ciphered
 {
     let mut schedule = KeySchedule::none();
     let answer = schedule.expand(key);
+    let ciphertext = encrypt_block(&schedule, block);
     Ciphered {
         answer,
-        block: encrypt_block(&schedule, block),
+        block: ciphertext,
     }
 }
 
@@ -33,8 +34,9 @@ pub fn decrypt(key: &[u8], block: [u8; 16]) -> Ciphered
     let mut schedule = KeySchedule::none();
     let answer = schedule.expand(key);
     invert(&mut schedule);
+    let plaintext = decrypt_block(&schedule, block);
     Ciphered {
         answer,
-        block: decrypt_block(&schedule, block),
+        block: plaintext,
     }
 }

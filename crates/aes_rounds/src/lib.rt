@@ -40,11 +40,12 @@ fn take_in(schedule: &KeySchedule, value: &mut [u8; 16], part: &[u8], at: usize)
     requires { at + 16 ≤ length part.now }
     ensures { value.new ≡ encrypt_block s_box schedule.now.words schedule.now.rounds (value.old ⊕ take 16 (drop at part.now)) }
 {
-    *value = if schedule.is_usable() {
-        block_of(cipher(schedule, added(*value, part, at)))
+    if schedule.is_usable() {
+        let taken = block_of(cipher(schedule, added(*value, part, at)));
+        *value = taken;
     } else {
-        [0; 16]
-    };
+        *value = [0; 16];
+    }
 }
 
 // A block and a piece of a slice added up, in columns.

@@ -16,4 +16,4 @@ returns c =
     let e = c.expand-answer in
     let o : Octets 16 a.block = record { size = search rules; bytes = λ k. (let h : Fits w8 (get_or a.block k 0) = search rules in h.fits) } in
     decrypt-under a.key.now a.block e.result _ _ e.ensures.0 e.ensures.1 o
-    (c.decrypt_block.ensures ∙ ap (λ (s : KeySchedule). eq_decrypt_block inv_s_box s.words s.rounds a.block) c.invert.ensures)
+    (c.decrypt_block-plaintext.ensures ∙ ap (λ (s : KeySchedule). eq_decrypt_block inv_s_box s.words s.rounds a.block) c.invert.ensures)

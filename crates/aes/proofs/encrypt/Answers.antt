@@ -5,4 +5,4 @@ pub returns : goal.returns
 returns c =
     let a = c.args in
     let e = c.expand-answer in
-    encrypt-under a.key.now a.block e.result _ _ e.ensures.0 e.ensures.1 c.encrypt_block.ensures
+    encrypt-under a.key.now a.block e.result _ _ e.ensures.0 e.ensures.1 c.encrypt_block-ciphertext.ensures

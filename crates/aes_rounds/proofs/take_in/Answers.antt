@@ -12,7 +12,7 @@ pub returns-then-is_usable : goal.returns-then-is_usable
 unfolding encrypt_block
 returns-then-is_usable c = let a = c.args in
     simp (sym c.is_usable.ensures ∙ c.if-is_usable.true)
-    (c.block_of.ensures ∙ c.cipher.ensures ∙ ap (cipher aes s_box a.schedule.now.words a.schedule.now.rounds) c.added.ensures)
+    (c.block_of-taken.ensures ∙ c.cipher.ensures ∙ ap (cipher aes s_box a.schedule.now.words a.schedule.now.rounds) c.added.ensures)
 
 pub returns-else-is_usable : goal.returns-else-is_usable
 unfolding encrypt_block
