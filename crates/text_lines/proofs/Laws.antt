@@ -1,53 +1,34 @@
--- A line in an input, and the two ways in which gathering ends. Assumes nothing.
-use mathlib.Core.Path.{◌≡◌, sym, ◌∙◌}
-use mathlib.Core.Bool.{Bool, true, false, cond}
-use mathlib.Core.List.{List}
-use Prim.Native.Nat.{ℕ, ◌+◌, ◌-◌, ◌≤◌, ◌<◌}
-use native.Mathlib.Omega.{arith}
-use borrow.Author.Tests.{lt-ltb, le-ltb}
-use lib.Dec.{leb, ltb}
-use lib.ListN.{length, take, drop}
+-- A line in an input, and that gathering goes on. Assumes nothing.
+use Rattle.std.proofs.Common.{◌≡◌, ℕ, ◌+◌, ◌-◌, ◌≤◌, ◌<◌, Bool, true, false, cond, Option, None, Some, List, length, take, drop, leb, refl, sym, arith}
+use Rattle.std.proofs.Math.Seq.{paste}
+use Rattle.std.proofs.lemmas.Option.{none-some}
 use Rattle.octets_slice.specs.Slices.{copied}
-use Rattle.text_put.specs.Places.{fits, place_after}
+use Rattle.std.proofs.lemmas.Bool.Decides.{nat_tests}
 use Rattle.text_words.specs.Words.{end_of}
 use Rattle.text_words.proofs.WordLaws.{take_before}
-use Rattle.text_lines.specs.Gathering.{line_in, extended, gathered}
-use Rattle.text_lines.specs.declared.Place.{Place}
-use Rattle.text_lines.specs.declared.Gathered.{Gathered}
+use Rattle.text_lines.specs.Gathering.{line_in, extended, appended, gathered}
 
--- ---- the line so far, with more behind it
+-- the part of an input up to the end of a line is the line
+pub part_is_line : (inp : List ℕ) (at e : ℕ) → e ≡ end_of 10 inp at → take (e - at) (drop at inp) ≡ line_in inp at
+part_is_line inp at e p =
+    let d : e - at ≡ length (line_in inp at) = omega arith in
+    rw d (take_before 10 (drop at inp))
 
-module _ (p : Place) (s memory : List ℕ) where
-  pub no_room : leb (p.len + length s) (length memory) ≡ false → (◌≡◌ {A = Place} (record { len = p.len; over = true }) (extended p s memory)) × (memory ≡ copied s p.len memory)
-  unfolding extended copied
-  no_room e = (rw e, rw e)
-
-  pub room : (n : ℕ) → n ≡ place_after s memory p.len → leb (p.len + length s) (length memory) ≡ true → ◌≡◌ {A = Place} (record { len = n; over = p.over }) (extended p s memory)
-  unfolding extended place_after fits
-  room n q e = rw (q, e)
-
--- ---- what was found: e is where the line ends, s what it is
-
-module _ (p : Place) (inp : List ℕ) (at : ℕ) (memory : List ℕ) (e : ℕ) (s : List ℕ) (pe : e ≡ end_of 10 inp at) (ps : s ≡ take (e - at) (drop at inp)) where
-  pub is_line : s ≡ line_in inp at
-  is_line =
-      let d : e - at ≡ length (line_in inp at) = omega arith in
-      ps ∙ rw d (take_before 10 (drop at inp))
-
-  module _ (q : Place) (pq : q ≡ extended p s memory) where
-    pub not_whole : length inp ≤ e → ◌≡◌ {A = Gathered} (record { place = q; next = length inp; whole = false }) (gathered p inp at memory)
-    unfolding gathered
-    not_whole h = rw (sym pe, le-ltb _ _ h, pq, is_line)
-
-    pub is_whole : e < length inp → ◌≡◌ {A = Gathered} (record { place = q; next = e + 1; whole = true }) (gathered p inp at memory)
-    unfolding gathered
-    is_whole h = rw (sym pe, lt-ltb _ _ h, pq, is_line)
-
--- gathering goes on
-pub goes_on : (p : Place) (inp : List ℕ) (at : ℕ) (memory : List ℕ) → at < length inp → at < (gathered p inp at memory).next
+-- where another line begins, less is left of the input
+pub goes_on : (line : Option ℕ) (inp : List ℕ) (at : ℕ) (memory : List ℕ) (n : ℕ) → (gathered line inp at memory).next ≡ Some n → (at < n) × (n ≤ length inp)
 unfolding gathered
-goes_on p inp at memory h = go (ltb (at + length (line_in inp at)) (length inp))
+goes_on line inp at memory n h = grind (arith, nat_tests)
+
+-- a line that is too long leaves the memory as it was
+too_long : (line : Option ℕ) (s memory : List ℕ) → extended line s memory ≡ None → appended line s memory ≡ memory
+unfolding copied
+too_long None s memory h = refl
+too_long (Some n) s memory h = by (leb (n + length s) (length memory)) h
   where
-    go : (b : Bool) → at < cond b (at + length (line_in inp at) + 1) (length inp)
-    go true = omega arith
-    go false = h
+    by : (b : Bool) → cond b (Some (n + length s)) None ≡ None → cond b (paste memory n s (length s)) memory ≡ memory
+    by true e = absurd (none-some _ (sym e))
+    by false e = refl
+
+pub too_long_keeps : (line : Option ℕ) (inp : List ℕ) (at : ℕ) (memory : List ℕ) → (gathered line inp at memory).line ≡ None → appended line (line_in inp at) memory ≡ memory
+unfolding gathered
+too_long_keeps line inp at memory h = too_long line (line_in inp at) memory h

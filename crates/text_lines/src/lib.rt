@@ -2,79 +2,54 @@
 #![tactic(auto)]
 
 ghost use Rattle.std.specs.Prelude.{◌≡◌};
-ghost use Rattle.octets_slice.specs.Slices.{copied};
-ghost use Rattle.text_lines.specs.Gathering.{no_line, has_begun, extended, gathered, line_in};
+ghost use Rattle.text_lines.specs.Gathering.{no_line, has_begun, extended, appended, gathered, line_in};
 
 use octets_slice::{has_room, part};
 use text_put::put;
 use text_words::find;
 
-// The line so far: its length, and whether it was too long for the memory.
-#[derive(Clone, Copy)]
-pub struct Place {
-    pub len: usize,
-    pub over: bool,
-}
-
-// The line after a part, or as much of it as there was; where the next line begins; and whether this one is whole.
-#[derive(Clone, Copy)]
-pub struct Gathered {
-    pub place: Place,
-    pub next: usize,
-    pub whole: bool,
-}
-
-pub fn no_line() -> Place
+// A line so far is the number of its bytes, which stand at the front of the memory, or `None` once it was too long for it.
+pub fn no_line() -> Option<usize>
     ensures { result ≡ no_line }
 {
-    Place {
-        len: 0,
-        over: false,
-    }
+    Some(0)
 }
 
 // Whether anything of a line has come: at the end of the input, such a line counts.
-pub fn has_begun(p: Place) -> bool
-    ensures { result ≡ has_begun p }
+pub fn has_begun(line: Option<usize>) -> bool
+    ensures { result ≡ has_begun line }
 {
-    if 0 < p.len {
-        return true;
-    }
-    p.over
+    line != Some(0)
 }
 
-// What `input` has from `at` up to its next line feed, or its end, appended to the line so far; a line that is too long is marked.
-pub fn gather(p: Place, input: &[u8], at: usize, line: &mut [u8]) -> Gathered
-    ensures answer { result ≡ gathered p input.now at line.old }
-    ensures written { line.new ≡ copied (line_in input.now at) p.len line.old }
-{
-    let e = find(input, at, 10);
-    let place = extend(p, part(input, at, e), line);
-    if input.len() <= e {
-        return Gathered {
-            place,
-            next: input.len(),
-            whole: false,
-        };
-    }
-    Gathered {
-        place,
-        next: e + 1,
-        whole: true,
-    }
+// The line after a part, or as much of it as there was, and where the next one begins, if a line feed ended this one.
+#[derive(Clone, Copy, Debug, PartialEq, Eq)]
+pub struct Gathered {
+    pub line: Option<usize>,
+    pub next: Option<usize>,
 }
 
-// The line with `s` appended; if that is too long, the line is marked and nothing is put.
-fn extend(p: Place, s: &[u8], line: &mut [u8]) -> Place
-    ensures answer { result ≡ extended p s.now line.old }
-    ensures written { line.new ≡ copied s.now p.len line.old }
+// What `input` has from `at` up to its next line feed, or its end, appended to the line so far.
+#[tactic(auto, using(crate::proofs::Laws::part_is_line), unfolding(crate::specs::Gathering::gathered))]
+pub fn gather(line: Option<usize>, input: &[u8], at: usize, memory: &mut [u8]) -> Gathered
+    ensures answer { result ≡ gathered line input.now at memory.old }
+    ensures written { memory.new ≡ appended line (line_in input.now at) memory.old }
 {
-    let n = p.len;
-    if !has_room(line.len(), n, s.len()) {
-        return Place { len: n, over: true };
+    let end = find(input, at, b'\n');
+    let line = extend(line, part(input, at, end), memory);
+    let next = (end < input.len()).then(|| end + 1);
+    Gathered { line, next }
+}
+
+// The line with `s` appended; if that is too long, nothing is put.
+#[tactic(auto, unfolding(octets_slice::specs::Slices::copied, text_put::specs::Places::place_after, text_put::specs::Places::fits))]
+fn extend(line: Option<usize>, s: &[u8], memory: &mut [u8]) -> Option<usize>
+    ensures answer { result ≡ extended line s.now memory.old }
+    ensures written { memory.new ≡ appended line s.now memory.old }
+{
+    let n = line?;
+    if !has_room(memory.len(), n, s.len()) {
+        return None;
     }
-    Place {
-        len: put(s, line, n),
-        over: p.over,
-    }
+    Some(put(s, memory, n))
 }

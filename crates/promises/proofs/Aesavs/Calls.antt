@@ -2,13 +2,12 @@
 use mathlib.Core.Path.{◌≡◌, sym, ap, ◌∙◌}
 use mathlib.Core.Bool.{true, false, not}
 use Prim.Native.Nat.{◌+◌}
-use lib.Dec.{leb}
-use lib.ListN.{length}
-use Rattle.octets_slice.specs.Slices.{copied}
 use Rattle.modes_answer.specs.Answers.{mode_number}
 use Rattle.modes.specs.Calls.{mode_answer}
 use Rattle.modes.proofs.Calls.{kept}
-use Rattle.text_lines.specs.Gathering.{line_in}
+use Rattle.std.specs.Prelude.{None}
+use Rattle.text_lines.specs.declared.Gathered.{Gathered}
+use Rattle.text_lines.proofs.Laws.{too_long_keeps}
 use Rattle.aesavs_record.specs.Records.{between, next_line}
 use Rattle.aesavs_record.specs.declared.Stepped.{Stepped}
 use Rattle.aesavs_record.proofs.Told.{refusing, expected, refused_exactly, end_refused_exactly, lines_are_counted}
@@ -51,10 +50,8 @@ pub gather_determined : (κs : _) (a : _) (r r' : _) (s s' : _) → gather.Post 
 gather_determined κs a r r' s s' p q = (p.0 ∙ sym q.0, p.1 ∙ sym q.1)
 
 -- a line that is too long leaves the memory as it was
-pub gather_refused_keeps : (κs : _) (a : _) (r : _) (s : _) → gather.Post κs a r s
-    → leb (a.0.len + length (line_in a.1.0.now a.1.1.0)) (length a.1.1.1.0.now) ≡ false → s.1.1.1.0.now ≡ a.1.1.1.0.now
-unfolding copied
-gather_refused_keeps κs a r s p e = p.1 ∙ rw e
+pub gather_refused_keeps : (κs : _) (a : _) (r : _) (s : _) → gather.Post κs a r s → r.line ≡ None → s.1.1.1.0.now ≡ a.1.1.1.0.now
+gather_refused_keeps κs a r s p e = p.1 ∙ too_long_keeps a.0 a.1.0.now a.1.1.0 a.1.1.1.0.now (ap (λ (g : Gathered). g.line) (sym p.0) ∙ e)
 
 pub read_line_asks_nothing : (κs : _) (a : _) → read_line.Asked κs a
 read_line_asks_nothing κs a = tt
