@@ -7,33 +7,33 @@ mod steps;
 ghost use Rattle.std.specs.Prelude.{◌≡◌};
 ghost use Rattle.saes_spec.specs.Saes.{encrypted, decrypted};
 
+use crate::nibbles::{INV_S, S};
+use crate::steps::{
+    add_round_key, mix_columns, round_keys, shift_rows, state_of, states, substituted,
+};
 use saes_spec::States;
-use steps::{add_round_key, inv_round, key1, key2, number_of, round, state_of};
 
-// The state after each key addition: the last one is the ciphertext.
+// The state after each key addition: the last one is the ciphertext. The second round is not mixed.
 pub fn encrypt(key: u16, block: u16) -> States
     ensures { result ≡ encrypted key block }
 {
-    let first = add_round_key(state_of(key), state_of(block));
-    let second = round(true, key1(key), first);
-    let third = round(false, key2(key), second);
-    States {
-        first: number_of(first),
-        second: number_of(second),
-        third: number_of(third),
-    }
+    let keys = round_keys(key);
+    let first = add_round_key(keys.first, state_of(block));
+    let shifted = shift_rows(substituted(&S, first));
+    let second = add_round_key(keys.second, mix_columns(1, 4, shifted));
+    let third = add_round_key(keys.third, shift_rows(substituted(&S, second)));
+    states(first, second, third)
 }
 
-// The state after each key addition of decryption: the last one is the plaintext.
+// The state after each key addition of decryption: the last one is the plaintext. The first round begins without unmixing. A row of two
+// is turned back as it was turned.
 pub fn decrypt(key: u16, block: u16) -> States
     ensures { result ≡ decrypted key block }
 {
-    let first = add_round_key(key2(key), state_of(block));
-    let second = inv_round(false, key1(key), first);
-    let third = inv_round(true, state_of(key), second);
-    States {
-        first: number_of(first),
-        second: number_of(second),
-        third: number_of(third),
-    }
+    let keys = round_keys(key);
+    let first = add_round_key(keys.third, state_of(block));
+    let second = add_round_key(keys.second, substituted(&INV_S, shift_rows(first)));
+    let unmixed = mix_columns(9, 2, second);
+    let third = add_round_key(keys.first, substituted(&INV_S, shift_rows(unmixed)));
+    states(first, second, third)
 }
