@@ -8,6 +8,7 @@ ghost use Rattle.aes_lookup_forward.specs.Model.{forward_entries};
 
 // A `match` with an arm for each number is compiled to a table in read-only memory. If it is called from one place only, it is inlined there.
 // The arms start at 256: with arms from 0 on the compiler narrows the index, which adds an instruction to each lookup.
+// A static array, as in `field_log`, was tried: the compiler then vectorizes the rounds, and a piece takes 30 % more instructions.
 pub fn forward_at(x: u32) -> u64
     ensures { result ≡ twice (entry forward_entries (arm x)) }
 {
