@@ -65,7 +65,7 @@ fn written<E: Print + Eprint + Alloc>(rt: &E, held: Held, text: &[u8]) -> Held {
         return held.at(0);
     }
     let answers = octets_slice::part(text, 0, held.end);
-    if streams::is_written(rt, &mut io::writer(rt), answers, WRITE_FAILED) {
+    if streams::write(rt, &mut io::writer(rt), answers, WRITE_FAILED).is_ok() {
         return held.at(0);
     }
     held.at(0).cut_off()

@@ -1,4 +1,4 @@
-// Where the keys come from.
+// The keys, out of the input.
 ghost use Rattle.std.specs.Prelude.{◌≤◌, length};
 
 use std::io::Read;

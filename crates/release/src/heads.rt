@@ -1,226 +1,182 @@
-// What is shown of a block, put into lent memory at a place: the place after it. In words, or as an object of JSON.
-ghost use Rattle.std.specs.Prelude.{◌<◌};
-
-use crate::{alone, lines, put};
-use alone::Payload;
+// What is shown of a block: in words, or as an object of JSON.
+use crate::card::Refusal;
+use crate::form::Show;
 use image_layout::Head;
-use lines::Text;
-use text_put::put;
+use image_reader_tally::Stop;
+use image_reasons::Reason;
+use std::fmt::{self, Display, Formatter};
 
-// A block at its place and its header; and, where there are keys, 0 or the number that a reader refuses the block with.
+/// A block at its place, its header, its bytes, and its payload where a reader accepts it. Where there are keys, `stop` says how a reader
+/// stops at it.
 #[derive(Clone, Copy)]
-pub struct Seen {
-    pub place: u64,
+pub struct Seen<'a> {
+    pub place: usize,
     pub head: Head,
-    pub keyed: bool,
-    pub answer: u32,
+    pub stop: Option<Stop>,
+    pub alone: bool,
+    pub bytes: &'a [u8],
+    pub payload: &'a [u8],
 }
 
-// What is asked for: JSON or words, and of one block or of all.
-#[derive(Clone, Copy)]
-pub struct Style {
-    pub json: bool,
-    pub one: bool,
-}
+impl Seen<'_> {
+    fn is_open(&self) -> bool {
+        matches!(self.stop, Some(Stop::End))
+    }
 
-// ---- in words
+    fn check(&self) -> Hex<'_> {
+        Hex(image_view::check_part(self.bytes, 0))
+    }
 
-fn words(s: Seen, text: &mut [u8], at: usize) -> usize {
-    let head = s.head;
-    let a = put::number(b"block ", s.place, text, at);
-    let b = numbers(head, text, a);
-    let c = edition(head.reserved, text, b);
-    let d = verdict(s.keyed, s.answer, text, c);
-    put(b"\n", text, d)
-}
+    // What is shown of one block alone: its check and its bytes, and its payload where it is open.
+    fn words_alone<W: fmt::Write>(&self, f: &mut Formatter<W>) -> fmt::Result {
+        let check = self.check();
+        writeln!(f, "check {check}")?;
+        dump(f, "bytes", self.bytes)?;
+        if !self.is_open() {
+            return Ok(());
+        }
+        if self.payload.is_empty() {
+            return writeln!(f, "payload none");
+        }
+        dump(f, "payload", self.payload)
+    }
 
-fn numbers(head: Head, text: &mut [u8], at: usize) -> usize {
-    let a = put::number(b" number ", head.number as u64, text, at);
-    let b = put::number(b" count ", head.count as u64, text, a);
-    let c = put::number(b" release ", head.release as u64, text, b);
-    put::number(b" length ", head.len as u64, text, c)
-}
-
-fn edition(mark: u16, text: &mut [u8], at: usize) -> usize {
-    match mark {
-        0 => put(b" edition 1", text, at),
-        2 => put(b" edition 2", text, at),
-        _ => put::number(b" edition unknown mark ", mark as u64, text, at),
+    // The fields of it behind those of the header.
+    fn json_alone<W: fmt::Write>(&self, f: &mut Formatter<W>) -> fmt::Result {
+        let check = self.check();
+        let bytes = Hex(self.bytes);
+        write!(
+            f,
+            ",\"check\":\"{check}\",\"bytes\":\"{bytes}\",\"payload\":"
+        )?;
+        if !self.is_open() {
+            return write!(f, "null");
+        }
+        let payload = Hex(self.payload);
+        write!(f, "\"{payload}\"")
     }
 }
 
-fn verdict(keyed: bool, answer: u32, text: &mut [u8], at: usize) -> usize {
-    if !keyed {
-        return at;
+impl Show for Seen<'_> {
+    fn words<W: fmt::Write>(&self, f: &mut Formatter<W>) -> fmt::Result {
+        let Head {
+            number,
+            count,
+            release,
+            len,
+            reserved,
+        } = self.head;
+        let place = self.place;
+        write!(
+            f,
+            "block {place} number {number} count {count} release {release} length {len} edition "
+        )?;
+        match reserved {
+            0 => write!(f, "1")?,
+            2 => write!(f, "2")?,
+            mark => write!(f, "unknown mark {mark}")?,
+        }
+        match self.stop {
+            None => {}
+            Some(Stop::End) => write!(f, " check right")?,
+            Some(Stop::At(_, Reason::CheckWrong)) => write!(f, " check wrong")?,
+            Some(stop) => {
+                let refusal = stop.number();
+                write!(f, " check right refusal {refusal}")?;
+            }
+        }
+        writeln!(f)?;
+        if self.alone {
+            self.words_alone(f)?;
+        }
+        Ok(())
     }
-    match answer {
-        0 => put(b" check right", text, at),
-        14 => put(b" check wrong", text, at),
-        _ => put::number(b" check right refusal ", answer as u64, text, at),
+
+    fn json<W: fmt::Write>(&self, f: &mut Formatter<W>) -> fmt::Result {
+        let Head {
+            number,
+            count,
+            release,
+            len,
+            reserved,
+        } = self.head;
+        let place = self.place;
+        let edition = OrNull(match reserved {
+            0 => Some(1),
+            2 => Some(2),
+            _ => None,
+        });
+        let refusal = OrNull(self.stop.map(|stop| stop.number()));
+        write!(
+            f,
+            "{{\"block\":{place},\"number\":{number},\"count\":{count},\"release\":{release},\"length\":{len}"
+        )?;
+        write!(
+            f,
+            ",\"edition\":{edition},\"mark\":{reserved},\"refusal\":{refusal}"
+        )?;
+        if self.alone {
+            self.json_alone(f)?;
+        }
+        writeln!(f, "}}")
     }
 }
 
 // Bytes in rows of 32, each behind the word and the place of its first.
-fn dump(word: &[u8], bytes: &[u8], text: &mut [u8], at: usize) -> usize {
-    let mut end = at;
-    for i in 0..16 {
-        let next = row(word, bytes, i, text, end);
-        end = next;
+fn dump<W: fmt::Write>(f: &mut Formatter<W>, word: &str, bytes: &[u8]) -> fmt::Result {
+    for (from, row) in (0..512).step_by(32).zip(bytes.chunks(32)) {
+        let row = Hex(row);
+        writeln!(f, "{word} {from} {row}")?;
     }
-    end
+    Ok(())
 }
 
-fn row(word: &[u8], bytes: &[u8], i: usize, text: &mut [u8], at: usize) -> usize
-    requires { i < 16 }
-{
-    let from = i * 32;
-    let part = octets_slice::part(bytes, from, from + 32);
-    if part.len() == 0 {
-        return at;
+// ---- what is not there
+
+/// The place of a block that is not there, or not whole. In words nothing is shown of it.
+#[derive(Clone, Copy)]
+pub struct Missing {
+    pub place: usize,
+    pub refusal: Refusal,
+}
+
+impl Show for Missing {
+    fn words<W: fmt::Write>(&self, _f: &mut Formatter<W>) -> fmt::Result {
+        Ok(())
     }
-    let a = put::number(word, from as u64, text, at);
-    put::hex(b" ", part, b"\n", text, a)
-}
 
-// ---- as JSON
-
-// All fields of a block's object up to `refusal`; nothing closes it.
-fn object(s: Seen, text: &mut [u8], at: usize) -> usize {
-    let head = s.head;
-    let a = put::number(b"{\"block\":", s.place, text, at);
-    let b = number_fields(head, text, a);
-    let c = edition_field(head.reserved, text, b);
-    refusal(s.keyed, s.answer, text, c)
-}
-
-fn number_fields(head: Head, text: &mut [u8], at: usize) -> usize {
-    let a = put::number(b",\"number\":", head.number as u64, text, at);
-    let b = put::number(b",\"count\":", head.count as u64, text, a);
-    let c = put::number(b",\"release\":", head.release as u64, text, b);
-    put::number(b",\"length\":", head.len as u64, text, c)
-}
-
-fn edition_field(mark: u16, text: &mut [u8], at: usize) -> usize {
-    let a = edition_value(mark, text, at);
-    put::number(b",\"mark\":", mark as u64, text, a)
-}
-
-fn edition_value(mark: u16, text: &mut [u8], at: usize) -> usize {
-    match mark {
-        0 => put(b",\"edition\":1", text, at),
-        2 => put(b",\"edition\":2", text, at),
-        _ => put(b",\"edition\":null", text, at),
+    fn json<W: fmt::Write>(&self, f: &mut Formatter<W>) -> fmt::Result {
+        let place = self.place;
+        let refusal = self.refusal.number();
+        write!(f, "{{\"block\":{place},\"number\":null,\"count\":null")?;
+        write!(f, ",\"release\":null,\"length\":null,\"edition\":null")?;
+        writeln!(f, ",\"mark\":null,\"refusal\":{refusal}}}")
     }
 }
 
-fn refusal(keyed: bool, answer: u32, text: &mut [u8], at: usize) -> usize {
-    if keyed {
-        return put::number(b",\"refusal\":", answer as u64, text, at);
+// ---- values
+
+#[derive(Clone, Copy)]
+struct Hex<'a>(&'a [u8]);
+
+impl Display for Hex<'_> {
+    fn fmt<W: fmt::Write>(&self, f: &mut Formatter<W>) -> fmt::Result {
+        for byte in self.0 {
+            write!(f, "{byte:02x}")?;
+        }
+        Ok(())
     }
-    put(b",\"refusal\":null", text, at)
 }
 
-// The object of a block that is not there, or not whole.
-pub fn missing(place: u64, answer: u32, text: &mut [u8], at: usize) -> usize {
-    let a = put::number(b"{\"block\":", place, text, at);
-    let b = put(
-        b",\"number\":null,\"count\":null,\"release\":null,\"length\":null,\"edition\":null,\"mark\":null",
-        text,
-        a,
-    );
-    let c = put::number(b",\"refusal\":", answer as u64, text, b);
-    put(b"}\n", text, c)
-}
+// A number of JSON, or null.
+#[derive(Clone, Copy)]
+struct OrNull(Option<u32>);
 
-// A field of bytes in hex: a string, also of none.
-fn field(name: &[u8], bytes: &[u8], text: &mut [u8], at: usize) -> usize {
-    if bytes.len() == 0 {
-        let a = put(name, text, at);
-        return put(b"\"\"", text, a);
+impl Display for OrNull {
+    fn fmt<W: fmt::Write>(&self, f: &mut Formatter<W>) -> fmt::Result {
+        match self.0 {
+            Some(number) => write!(f, "{number}"),
+            None => write!(f, "null"),
+        }
     }
-    let a = put(name, text, at);
-    put::hex(b"\"", bytes, b"\"", text, a)
-}
-
-// ---- a block
-
-fn is_open(s: Seen) -> bool {
-    if s.keyed { s.answer == 0 } else { false }
-}
-
-fn length_of(s: Seen) -> usize {
-    let head = s.head;
-    head.len as usize
-}
-
-fn put_words(
-    s: Seen,
-    one: bool,
-    block: &[u8],
-    payload: &Payload,
-    text: &mut Text,
-    at: usize,
-) -> usize {
-    let a = words(s, text, at);
-    if !one {
-        return a;
-    }
-    let b = put::hex(b"check ", image_view::check_part(block, 0), b"\n", text, a);
-    let c = dump(b"bytes ", block, text, b);
-    if !is_open(s) {
-        return c;
-    }
-    put_payload(octets_slice::part(payload, 0, length_of(s)), text, c)
-}
-
-fn put_payload(payload: &[u8], text: &mut Text, at: usize) -> usize {
-    if payload.len() == 0 {
-        return put(b"payload none\n", text, at);
-    }
-    dump(b"payload ", payload, text, at)
-}
-
-fn put_object(
-    s: Seen,
-    one: bool,
-    block: &[u8],
-    payload: &Payload,
-    text: &mut Text,
-    at: usize,
-) -> usize {
-    let a = object(s, text, at);
-    if !one {
-        return put(b"}\n", text, a);
-    }
-    let b = field(b",\"check\":", image_view::check_part(block, 0), text, a);
-    let c = field(b",\"bytes\":", block, text, b);
-    let d = put_field(s, payload, text, c);
-    put(b"}\n", text, d)
-}
-
-fn put_field(s: Seen, payload: &Payload, text: &mut Text, at: usize) -> usize {
-    if is_open(s) {
-        return field(
-            b",\"payload\":",
-            octets_slice::part(payload, 0, length_of(s)),
-            text,
-            at,
-        );
-    }
-    put(b",\"payload\":null", text, at)
-}
-
-// All that is shown of a block: of one alone also its check, its bytes and, where it is open, its payload.
-pub fn block(
-    s: Seen,
-    style: Style,
-    bytes: &[u8],
-    payload: &Payload,
-    text: &mut Text,
-    at: usize,
-) -> usize {
-    if style.json {
-        return put_object(s, style.one, bytes, payload, text, at);
-    }
-    put_words(s, style.one, bytes, payload, text, at)
 }

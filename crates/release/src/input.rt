@@ -1,101 +1,100 @@
-// What is read: the keys, and the input a piece at a time. A read that fails is told from an end.
-use octets_slice::smaller;
+// What the program is given: its arguments, the keys, and the file that is read.
+ghost use Rattle.std.specs.Prelude.{◌≤◌, IfOk, length};
+
+use crate::failure::Failure;
+use crate::system::System;
+use image_reader::Reader;
 use std::env::Env;
-use std::io::{Read, Seek, SeekFrom};
-use std::rt::Files;
+use std::fs::File;
+use std::io::{Seek, SeekFrom};
+use streams::Told;
 
 // The arguments that name files.
-pub const KEYS: usize = 2;
+const KEYS: usize = 2;
 
-pub const INPUT: usize = 3;
+const INPUT: usize = 3;
 
-// Whether argument i is that word, of up to 8 bytes.
+/// Whether argument i is that word, of up to 8 bytes.
 pub fn is_word(rt: &impl Env, i: usize, word: &[u8]) -> bool {
-    let mut got = [0u8; 8];
-    match rt.arg(i, &mut got) {
-        Ok(n) => octets_slice::equal(&got[..n], word),
+    let mut room = [0u8; 8];
+    match rt.arg(i, &mut room) {
+        Ok(n) => &room[..n] == word,
         Err(_) => false,
     }
 }
 
-// Opens the file that argument i names, or tells why not. No name is written to the terminal: it may hold bytes that the terminal obeys.
-pub fn open<R: Files + Env + Eprint + Alloc>(rt: &R, i: usize) -> Option<R::File> {
-    streams::opened(rt, i, cannot_open(i))
+/// Whether there is `-` in the place of a key file.
+pub fn has_no_keys(rt: &impl Env) -> bool {
+    is_word(rt, KEYS, b"-")
 }
 
-fn cannot_open(i: usize) -> &'static str {
-    if i == KEYS {
-        "dock: the key file cannot be opened, check its permissions"
-    } else {
-        "dock: the input cannot be opened, check its permissions"
-    }
+/// The number that argument i is: at most 32 decimal digits.
+pub fn number(rt: &impl Env, i: usize) -> Option<u32> {
+    let mut room = [0u8; 32];
+    let n = rt.arg(i, &mut room).ok()?;
+    let value = text_decimal::decimal(&room[..n], u32::MAX.into())?;
+    u32::try_from(value).ok()
 }
 
-// The size of an open file, or more than an image can hold if it has no size. Reading then starts at its first byte.
-pub fn size_of<F: Seek>(file: &mut F) -> usize {
+/// Opens the file that is read.
+pub fn open(rt: &impl System) -> Result<File, Told> {
+    streams::opened(rt, INPUT, Failure::OpenInput)
+}
+
+/// The size of an open file, or more than an image can hold if it has no size. Reading then starts at its first byte.
+pub fn size_of(mut file: &File) -> usize {
     let end = file.seek(SeekFrom::End(0));
-    if !file.seek(SeekFrom::Start(0)).is_ok_and(|at| at == 0) {
-        return usize::MAX;
-    }
-    match end {
-        Ok(n) => n as usize,
-        Err(_) => usize::MAX,
+    let start = file.seek(SeekFrom::Start(0));
+    match (end, start) {
+        (Ok(size), Ok(0)) => size as usize,
+        _ => usize::MAX,
     }
 }
 
-// Reads `want` bytes, or as many as `buf` holds, or until the input ends: how many were read, and none where a read failed, which is told.
-pub fn fill<E: Eprint + Alloc, F: Read>(
-    rt: &E,
-    file: &mut F,
-    buf: &mut [u8],
-    want: usize,
-) -> Option<usize> {
-    let end = smaller(buf.len(), want);
-    let failed = "dock: a read failed, check the disk and start again";
-    streams::read_full(rt, file, &mut buf[..end], failed).ok()
-}
-
-// Two keys of equal size, or none if their file is wrong, which is told: how many bytes they have.
-pub fn keys<R: Files + Env + Eprint + Alloc>(rt: &R, room: &mut [u8; 65]) -> usize {
-    let Some(mut file) = open(rt, KEYS) else {
-        return 0;
-    };
-    let Some(n) = fill(rt, &mut file, room, 65) else {
-        return 0;
-    };
-    if is_two_keys(n) {
-        return n;
-    }
-    wrong_size(rt, n);
-    0
-}
-
-// The keys, which have n bytes.
-pub fn of(room: &[u8; 65], n: usize) -> &[u8] {
-    octets_slice::part(room, 0, n)
-}
-
-fn is_two_keys(n: usize) -> bool {
-    match n {
-        32 | 48 | 64 => true,
-        _ => false,
+/// Goes on at that byte of the file.
+pub fn seek(rt: &impl System, mut file: &File, at: u64) -> Result<(), Told> {
+    match file.seek(SeekFrom::Start(at)) {
+        Ok(_) => Ok(()),
+        Err(e) => Err(Failure::Seek.tell_why(rt, &e)),
     }
 }
 
-fn wrong_size(rt: &impl Eprint, n: usize) {
-    let rule =
-        "it must hold the encryption key and then the check key, of the same size, 32, 48 or 64 bytes in all";
-    let _ = if n == 65 {
-        eprintln!(rt; "dock: the key file has more than 64 bytes: {rule}")
-    } else {
-        eprintln!(rt; "dock: the key file has {n} bytes: {rule}")
-    };
+/// Reads until the part is full or the file ends: how many bytes came to its front.
+pub fn fill(rt: &impl System, mut file: &File, part: &mut [u8]) -> Result<usize, Told>
+    ensures { IfOk result (λ n. n ≤ length part.new) }
+{
+    streams::read_full(rt, &mut file, part, Failure::Read)
 }
 
-pub fn encryption_key(keys: &[u8]) -> &[u8] {
-    octets_slice::part(keys, 0, keys.len() / 2)
+/// The file of two keys of equal size.
+#[derive(Drop)]
+pub struct Keys {
+    bytes: Vec<u8>,
 }
 
-pub fn check_key(keys: &[u8]) -> &[u8] {
-    octets_slice::part(keys, keys.len() / 2, keys.len())
+impl Keys {
+    /// Reads one byte more than two keys have, so that a longer file is known from them.
+    pub fn read(rt: &impl System) -> Result<Keys, Told> {
+        let file = streams::opened(rt, KEYS, Failure::OpenKeys)?;
+        let mut bytes = vec![in rt.alloc(); 0u8; 65].map_err(|_| Failure::Memory.tell(rt))?;
+        let size = fill(rt, &file, &mut bytes)?;
+        bytes.truncate(size);
+        match size {
+            32 | 48 | 64 => Ok(Keys { bytes }),
+            _ => Err(Failure::KeySize(size).tell(rt)),
+        }
+    }
+
+    pub fn encryption(&self) -> &[u8] {
+        &self.bytes[..self.bytes.len() / 2]
+    }
+
+    pub fn check(&self) -> &[u8] {
+        &self.bytes[self.bytes.len() / 2..]
+    }
+
+    /// A reader that begins with block 0. The keys have a size that is taken, so their answer is not looked at.
+    pub fn reader(&self) -> Reader {
+        image_reader::read_start(self.encryption(), self.check()).reader
+    }
 }

@@ -5,6 +5,9 @@ use std::io::IsTerminal;
 use std::rt::Files;
 
 pub fn terminal<R: Files<File = File>>(rt: &R) -> Option<File> {
-    let lent = OpenOptions::new().append(true).open(rt, "/proc/self/fd/5");
-    lent.ok().filter(|file| file.is_terminal())
+    OpenOptions::new()
+        .append(true)
+        .open(rt, "/proc/self/fd/5")
+        .ok()
+        .filter(|file| file.is_terminal())
 }

@@ -6,46 +6,64 @@
 mod alone;
 mod card;
 mod clock;
+mod failure;
+mod form;
 mod heads;
 mod input;
 mod keep;
 mod lent;
 mod line;
-mod lines;
 mod listing;
-mod put;
+mod output;
 mod reading;
 mod rows;
 mod sealing;
 mod showing;
 mod system;
-mod tell;
+
+use failure::Failure;
+use std::env::Env;
+use streams::Told;
+use system::System;
 
 const VERB: usize = 1;
 
+#[derive(Clone, Copy, Debug, PartialEq, Eq)]
+enum Verb {
+    Seal,
+    Open,
+    Check,
+    List,
+    Show,
+}
+
+impl Verb {
+    fn given(rt: &impl Env) -> Option<Verb> {
+        let mut room = [0u8; 8];
+        let n = rt.arg(VERB, &mut room).ok()?;
+        match &room[..n] {
+            b"seal" => Some(Verb::Seal),
+            b"open" => Some(Verb::Open),
+            b"check" => Some(Verb::Check),
+            b"list" => Some(Verb::List),
+            b"show" => Some(Verb::Show),
+            _ => None,
+        }
+    }
+}
+
+fn run(rt: &impl System) -> Result<(), Told> {
+    match Verb::given(rt) {
+        Some(Verb::Seal) => sealing::seal_file(rt),
+        Some(Verb::Open) => reading::open_image(rt),
+        Some(Verb::Check) => reading::check_image(rt),
+        Some(Verb::List) => listing::list_image(rt),
+        Some(Verb::Show) => showing::show_image(rt),
+        None => Err(Failure::Verb.tell(rt)),
+    }
+}
+
+// What went wrong has been told, so there is nothing left to do.
 fn main(rt: HostRuntime) {
-    if input::is_word(&rt, VERB, b"check") {
-        reading::check_image(&rt);
-        return;
-    }
-    if input::is_word(&rt, VERB, b"open") {
-        reading::open_image(&rt);
-        return;
-    }
-    if input::is_word(&rt, VERB, b"list") {
-        listing::list_image(&rt);
-        return;
-    }
-    if input::is_word(&rt, VERB, b"show") {
-        showing::show_image(&rt);
-        return;
-    }
-    if input::is_word(&rt, VERB, b"seal") {
-        sealing::seal_file(&rt);
-        return;
-    }
-    tell::plain(
-        &rt,
-        "the first word is none of seal, open, check, list and show: start the program by dock",
-    );
+    let _ = run(&rt);
 }

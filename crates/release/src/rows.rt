@@ -1,51 +1,51 @@
-// The rows of a listing, put into lent memory at a place: the place after them. They are in the form of the program `listing`, or
-// objects of JSON.
-use crate::put::number;
+// The rows of a listing, in the form of the program `listing`, or objects of JSON.
+use crate::form::Show;
+use std::fmt::{self, Formatter};
 
-pub fn first(json: bool, text: &mut [u8]) -> usize {
-    if json {
-        return 0;
+#[derive(Clone, Copy, Debug, PartialEq, Eq)]
+pub enum Row {
+    Head,
+    /// The number expected, 0 or the refusal's number, the payload length or 0.
+    Block {
+        expected: u32,
+        answer: u32,
+        length: usize,
+    },
+    /// 0 or 17, and the blocks accepted.
+    End {
+        complete: u32,
+        accepted: u32,
+    },
+}
+
+impl Show for Row {
+    fn words<W: fmt::Write>(&self, f: &mut Formatter<W>) -> fmt::Result {
+        match self {
+            Row::Head => writeln!(f, "block answer length"),
+            Row::Block {
+                expected,
+                answer,
+                length,
+            } => writeln!(f, "{expected} {answer} {length}"),
+            Row::End { complete, accepted } => writeln!(f, "end {complete} {accepted}"),
+        }
     }
-    text_put::put(b"block answer length\n", text, 0)
-}
 
-// The number expected, 0 or the refusal's number, the payload length or 0.
-pub fn block(
-    json: bool,
-    expected: u64,
-    answer: u64,
-    length: u64,
-    text: &mut [u8],
-    at: usize,
-) -> usize {
-    if json {
-        return object(expected, answer, length, text, at);
+    fn json<W: fmt::Write>(&self, f: &mut Formatter<W>) -> fmt::Result {
+        match self {
+            Row::Head => Ok(()),
+            Row::Block {
+                expected,
+                answer,
+                length,
+            } => writeln!(
+                f,
+                "{{\"block\":{expected},\"refusal\":{answer},\"length\":{length}}}"
+            ),
+            Row::End { complete, accepted } => writeln!(
+                f,
+                "{{\"end\":true,\"refusal\":{complete},\"blocks\":{accepted}}}"
+            ),
+        }
     }
-    let a = number(b"", expected, text, at);
-    let b = number(b" ", answer, text, a);
-    let c = number(b" ", length, text, b);
-    text_put::put(b"\n", text, c)
-}
-
-fn object(expected: u64, answer: u64, length: u64, text: &mut [u8], at: usize) -> usize {
-    let a = number(b"{\"block\":", expected, text, at);
-    let b = number(b",\"refusal\":", answer, text, a);
-    let c = number(b",\"length\":", length, text, b);
-    text_put::put(b"}\n", text, c)
-}
-
-// 0 or 17, and the blocks accepted.
-pub fn last(json: bool, complete: u64, accepted: u64, text: &mut [u8], at: usize) -> usize {
-    if json {
-        return last_object(complete, accepted, text, at);
-    }
-    let a = number(b"end ", complete, text, at);
-    let b = number(b" ", accepted, text, a);
-    text_put::put(b"\n", text, b)
-}
-
-fn last_object(complete: u64, accepted: u64, text: &mut [u8], at: usize) -> usize {
-    let a = number(b"{\"end\":true,\"refusal\":", complete, text, at);
-    let b = number(b",\"blocks\":", accepted, text, a);
-    text_put::put(b"}\n", text, b)
 }

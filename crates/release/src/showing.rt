@@ -1,15 +1,19 @@
 // The headers of an image's blocks, as they stand there: of all, by a view of at most 128 blocks at a time, or of one. Under keys also
 // what a reader says of each block by itself.
-use crate::{alone, card, clock, heads, input, lent, lines, reading, sealing, system, tell};
-use alone::Payload;
-use heads::{Seen, Style};
-use image_layout::Head;
+use crate::alone::Block;
+use crate::card::Refusal;
+use crate::clock::Clock;
+use crate::failure::Failure;
+use crate::form::Form;
+use crate::heads::{Missing, Seen};
+use crate::input::Keys;
+use crate::output::Output;
+use crate::system::System;
+use crate::{card, input, lent};
 use image_reader::Reader;
-use lines::{Text, Waiting};
+use image_reader_tally::Stop;
 use std::fs::File;
-use std::io::{Seek, SeekFrom};
-use system::System;
-use text_decimal::Number;
+use streams::Told;
 
 type Blocks = [u8; 65536];
 
@@ -17,407 +21,239 @@ const PLACE: usize = 4;
 
 const FORM: usize = 5;
 
-// The image, the keys if there are any, and the form that is asked for.
-#[derive(Clone, Copy)]
-pub struct Job<'a> {
-    pub reader: Reader,
-    pub keyed: bool,
-    pub style: Style,
-    pub from: &'a File,
-    pub size: usize,
+// The blocks that are asked for.
+#[derive(Clone, Copy, Debug, PartialEq, Eq)]
+enum Asked {
+    All,
+    One(usize),
 }
 
-// How far the showing has come: the place of the next block, the check of the one before it, whether no block was refused, and
-// whether nothing has failed.
-#[derive(Clone, Copy)]
-pub struct Shown {
-    pub place: usize,
-    pub last: [u8; 16],
-    pub right: bool,
-    pub going: bool,
-    pub waiting: Waiting,
-}
-
-// The places that are asked for, up to `end`, and the check of the block before the first.
-#[derive(Clone, Copy)]
-pub struct Range {
-    pub first: usize,
-    pub end: usize,
-    pub last: [u8; 16],
-}
-
-// ---- one block
-
-// Without keys there is no answer, and 0 stands for it.
-fn answer(job: Job<'_>, head: Head, last: [u8; 16], block: &[u8], payload: &mut Payload) -> u32 {
-    if !job.keyed {
-        return 0;
-    }
-    alone::answer(job.reader, head, last, block, payload)
-}
-
-// A block that a view shows: its answer is found and all of it is put.
-fn show_block(rt: &impl System, job: Job<'_>, s: Shown, block: &[u8], text: &mut Text) -> Shown {
-    let mut payload = [0u8; 480];
-    let head = image_layout::head_of(octets_block::load(block, 0));
-    let last = s.last;
-    let found = answer(job, head, last, block, &mut payload);
-    let seen = Seen {
-        place: s.place as u64,
-        head,
-        keyed: job.keyed,
-        answer: found,
-    };
-    let waiting = lines::with_room(rt, s.waiting, text);
-    let end = heads::block(seen, job.style, block, &payload, text, waiting.end);
-    Shown {
-        place: s.place.wrapping_add(1),
-        last: octets_block::load(image_view::check_part(block, 0), 0),
-        right: sealing::both(s.right, found == 0),
-        going: waiting.going,
-        waiting: waiting.up_to(end),
-    }
-}
-
-// ---- all blocks
-
-// Block j of the view of a turn.
-fn show_at(
-    rt: &impl System,
-    job: Job<'_>,
-    s: Shown,
-    lent: &[u8],
-    j: usize,
-    text: &mut Text,
-) -> Shown {
-    show_block(rt, job, s, image_view::block_part(lent, j), text)
-}
-
-fn show_turn(rt: &impl System, job: Job<'_>, s: Shown, lent: &[u8], text: &mut Text) -> Shown {
-    let mut t = s;
-    for j in 0..image_view::blocks(lent) {
-        t = show_at(rt, job, t, lent, j, text);
-    }
-    t
-}
-
-fn stopped(s: Shown) -> Shown {
-    let last = s.last;
-    let waiting = s.waiting;
-    Shown {
-        place: s.place,
-        last,
-        right: s.right,
-        going: false,
-        waiting,
-    }
-}
-
-fn tell_changed(rt: &impl Eprint) {
-    tell::plain(
-        rt,
-        "the image was changed while it was read: show it again once nobody writes to it",
-    );
-}
-
-// The next 128 blocks, or what is left of them.
-fn turn(
-    rt: &impl System,
-    job: Job<'_>,
-    s: Shown,
-    end: usize,
-    lent: &mut Blocks,
-    text: &mut Text,
-) -> Shown {
-    let n = sealing::left(end, s.place, 128) * 512;
-    let mut from = job.from;
-    let Some(got) = input::fill(rt, &mut from, lent, n) else {
-        return stopped(s);
-    };
-    if got < n {
-        tell_changed(rt);
-        return stopped(s);
-    }
-    show_turn(rt, job, s, octets_slice::part(lent, 0, n), text)
-}
-
-// How many turns of 128 blocks there are.
-fn turns_of(r: Range) -> usize {
-    if r.end <= r.first {
-        return 0;
-    }
-    (r.end - r.first - 1) / 128 + 1
-}
-
-fn show_blocks(
-    rt: &impl System,
-    job: Job<'_>,
-    r: Range,
-    terminal: Option<File>,
-    lent: &mut Blocks,
-    text: &mut Text,
-) -> Shown {
-    let mut c = clock::start(rt, terminal, r.end as u64);
-    let last = r.last;
-    let mut s = Shown {
-        place: r.first,
-        last,
-        right: true,
-        going: true,
-        waiting: lines::none(),
-    };
-    for _ in 0..turns_of(r) {
-        s = turn(rt, job, s, r.end, lent, text);
-        if !s.going {
-            c.stop();
-            return s;
+impl Asked {
+    fn given(rt: &impl System) -> Result<Asked, Told> {
+        if input::is_word(rt, PLACE, b"all") {
+            return Ok(Asked::All);
         }
-        c.tick(rt, s.place as u64);
+        match input::number(rt, PLACE) {
+            Some(place) => Ok(Asked::One(place as usize)),
+            None => Err(Failure::Place.tell(rt)),
+        }
     }
-    c.stop();
-    s
 }
 
-// ---- the image
-
-fn blocks_of(job: Job<'_>) -> usize {
-    job.size / 512
-}
-
-fn is_cut(job: Job<'_>) -> bool {
-    job.size % 512 != 0
-}
-
-// Behind the whole blocks there is what there was at the start.
-fn is_unchanged(rt: &impl System, job: Job<'_>) -> bool {
-    let mut rest = [0u8; 512];
-    let mut from = job.from;
-    let Some(n) = input::fill(rt, &mut from, &mut rest, 512) else {
-        return false;
-    };
-    if n == job.size % 512 {
-        return true;
-    }
-    tell_changed(rt);
-    false
-}
-
-// Of a block that is not there, or not whole, there is an object alone.
-fn put_missing(json: bool, place: usize, answer: u32, w: Waiting, text: &mut Text) -> Waiting {
-    if !json {
-        return w;
-    }
-    w.up_to(heads::missing(place as u64, answer, text, w.end))
-}
-
-// Bytes behind the last whole block are refused with 6, but after the blocks before them have been shown.
-fn is_all_right(rt: &impl System, job: Job<'_>, s: Shown, text: &mut Text) -> bool {
-    let before = s.waiting;
-    if !is_cut(job) {
-        return sealing::both(s.right, lines::written(rt, before, text).going);
-    }
-    let roomy = lines::with_room(rt, before, text);
-    let waiting = put_missing(job.style.json, blocks_of(job), 6, roomy, text);
-    lines::written(rt, waiting, text);
-    card::tell(rt, blocks_of(job) as u64, 6);
-    false
-}
-
-// Whether all was shown, and no block is refused.
-fn is_whole(rt: &impl System, job: Job<'_>, s: Shown, text: &mut Text) -> bool {
-    if s.going {
-        return is_all_right(rt, job, s, text);
-    }
-    lines::written(rt, s.waiting, text);
-    false
-}
-
-fn show_all(
-    rt: &impl System,
-    job: Job<'_>,
-    terminal: Option<File>,
-    lent: &mut Blocks,
-    text: &mut Text,
-) -> bool {
-    if job.size == 0 {
-        tell::plain(
-            rt,
-            "the image has no blocks: the file is empty, so fetch it again",
-        );
-        return false;
-    }
-    let r = Range {
-        first: 0,
-        end: blocks_of(job),
-        last: [0u8; 16],
-    };
-    let s = show_blocks(rt, job, r, terminal, lent, text);
-    if !s.going {
-        return is_whole(rt, job, s, text);
-    }
-    if is_unchanged(rt, job) {
-        return is_whole(rt, job, s, text);
-    }
-    is_whole(rt, job, stopped(s), text)
-}
-
-// ---- one place
-
-// Where the check of a block lies in the image.
-fn check_place(place: usize) -> u64 {
-    (place % 4294967296 * 512 + 496) as u64
-}
-
-// Reads the check of a block, so that the block behind it comes next; answers whether that could be done.
-fn is_check_read(rt: &impl System, mut from: &File, place: usize, check: &mut [u8; 16]) -> bool {
-    if let Err(e) = from.seek(SeekFrom::Start(check_place(place))) {
-        streams::tell(
-            rt,
-            "dock: the image cannot be read, check the disk and start again",
-            &e,
-        );
-        return false;
-    }
-    let Some(n) = input::fill(rt, &mut from, check, 16) else {
-        return false;
-    };
-    if n == 16 {
-        return true;
-    }
-    tell_changed(rt);
-    false
-}
-
-// The first block has sixteen zeros before it.
-fn is_before_read(rt: &impl System, from: &File, place: usize, check: &mut [u8; 16]) -> bool {
-    if place == 0 {
-        return true;
-    }
-    is_check_read(rt, from, place - 1, check)
-}
-
-fn show_place(
-    rt: &impl System,
-    job: Job<'_>,
-    terminal: Option<File>,
+// The image, the reader if there are keys, and how far the showing has come: the place of the next block, the check of the one before it,
+// whether no block was refused, and the lines that wait.
+#[derive(Drop)]
+struct Showing<'a> {
+    from: &'a File,
+    size: usize,
+    reader: Option<Reader>,
+    asked: Asked,
     place: usize,
-    lent: &mut Blocks,
-    text: &mut Text,
-) -> bool {
-    let mut last = [0u8; 16];
-    if !is_before_read(rt, job.from, place, &mut last) {
-        return false;
-    }
-    let r = Range {
-        first: place,
-        end: place.wrapping_add(1),
-        last,
-    };
-    let s = show_blocks(rt, job, r, terminal, lent, text);
-    is_whole(rt, job, s, text)
+    last: [u8; 16],
+    right: bool,
+    output: Output,
 }
 
-// The place is that of no whole block: of the bytes behind the last one, or of none.
-fn show_none(rt: &impl System, job: Job<'_>, place: usize, text: &mut Text) {
-    let blocks = blocks_of(job);
-    let answer = none_number(place == blocks, is_cut(job));
-    let waiting = put_missing(job.style.json, place, answer, lines::none(), text);
-    lines::written(rt, waiting, text);
-    if answer == 6 {
-        card::tell(rt, place as u64, 6);
-    } else {
-        card::tell_place(rt, blocks as u64);
+impl Showing<'_> {
+    fn blocks(&self) -> usize {
+        self.size / 512
     }
-}
 
-fn none_number(behind: bool, cut: bool) -> u32 {
-    if sealing::both(behind, cut) { 6 } else { 20 }
-}
-
-fn show_one(
-    rt: &impl System,
-    job: Job<'_>,
-    terminal: Option<File>,
-    place: usize,
-    lent: &mut Blocks,
-    text: &mut Text,
-) -> bool {
-    if place < blocks_of(job) {
-        return show_place(rt, job, terminal, place, lent, text);
+    fn is_cut(&self) -> bool {
+        self.size % 512 != 0
     }
-    show_none(rt, job, place, text);
-    false
+
+    // ---- blocks
+
+    // The next block that a view shows: how a reader stops at it is found, and all of it is put.
+    fn show_block(&mut self, rt: &impl System, bytes: &[u8]) -> Result<(), Told> {
+        let head = image_layout::head_of(octets_block::load(bytes, 0));
+        let last = self.last;
+        let mut payload = [0u8; 480];
+        let stop = self.reader.map(|reader| Block { last, head, bytes }.read(reader, &mut payload));
+        let seen = Seen {
+            place: self.place,
+            head,
+            stop,
+            alone: self.asked != Asked::All,
+            bytes,
+            payload: octets_slice::part(&payload, 0, head.len.into()),
+        };
+        self.output.make_room(rt)?;
+        self.output.put(rt, seen)?;
+        self.right = self.right && matches!(stop, None | Some(Stop::End));
+        self.place = self.place.saturating_add(1);
+        self.last = octets_block::load(image_view::check_part(bytes, 0), 0);
+        Ok(())
+    }
+
+    // The next 128 blocks, or what is left of those up to `end`.
+    fn turn(&mut self, rt: &impl System, end: usize, lent: &mut Blocks) -> Result<(), Told> {
+        let n = end.saturating_sub(self.place).min(128) * 512;
+        if input::fill(rt, self.from, &mut lent[..n])? < n {
+            return Err(Failure::Changed.tell(rt));
+        }
+        for block in lent[..n].chunks_exact(512) {
+            self.show_block(rt, block)?;
+        }
+        Ok(())
+    }
+
+    fn turns(&mut self, rt: &impl System, end: usize, clock: &mut Clock) -> Result<(), Told> {
+        let mut lent = [0u8; 65536];
+        for _ in 0..end.saturating_sub(self.place).div_ceil(128) {
+            self.turn(rt, end, &mut lent)?;
+            clock.tick(rt, self.place as u64);
+        }
+        Ok(())
+    }
+
+    // Shows the blocks up to `end`.
+    fn show_to(
+        &mut self,
+        rt: &impl System,
+        end: usize,
+        terminal: Option<File>,
+    ) -> Result<(), Told> {
+        let mut clock = Clock::start(rt, terminal, end as u64);
+        let shown = self.turns(rt, end, &mut clock);
+        clock.stop();
+        shown
+    }
+
+    // ---- the end of the image
+
+    // Behind the whole blocks there are as many bytes as there were at the start.
+    fn expect_rest(&self, rt: &impl System) -> Result<(), Told> {
+        let mut rest = [0u8; 512];
+        if input::fill(rt, self.from, &mut rest)? == self.size % 512 {
+            return Ok(());
+        }
+        Err(Failure::Changed.tell(rt))
+    }
+
+    // Of a block that is not there, or not whole, there is an object alone.
+    fn put_missing(
+        &mut self,
+        rt: &impl System,
+        place: usize,
+        refusal: Refusal,
+    ) -> Result<(), Told> {
+        self.output.make_room(rt)?;
+        self.output.put(rt, Missing { place, refusal })?;
+        self.output.write(rt)
+    }
+
+    // Bytes behind the last whole block are refused with 6, but after the blocks before them have been shown.
+    fn refuse_rest(&mut self, rt: &impl System) {
+        let blocks = self.blocks();
+        let refusal = Refusal::Stopped(Stop::Lent);
+        let _ = self.put_missing(rt, blocks, refusal);
+        card::tell(rt, blocks as u64, refusal);
+    }
+
+    // Whether all was shown, and no block is refused. What was shown before something failed is written.
+    fn is_whole(&mut self, rt: &impl System, shown: Result<(), Told>) -> Result<bool, Told> {
+        if shown.is_ok() && self.is_cut() {
+            self.refuse_rest(rt);
+            return Ok(false);
+        }
+        self.output.write(rt)?;
+        shown?;
+        Ok(self.right)
+    }
+
+    fn show_all(&mut self, rt: &impl System, terminal: Option<File>) -> Result<bool, Told> {
+        if self.size == 0 {
+            return Err(Failure::Empty.tell(rt));
+        }
+        let shown = match self.show_to(rt, self.blocks(), terminal) {
+            Ok(()) => self.expect_rest(rt),
+            failed => failed,
+        };
+        self.is_whole(rt, shown)
+    }
+
+    // ---- one place
+
+    // The check of the block before a place, so that the block there comes next. The first block has sixteen zeros before it.
+    fn check_before(&self, rt: &impl System, place: usize) -> Result<[u8; 16], Told> {
+        let mut check = [0u8; 16];
+        if place == 0 {
+            return Ok(check);
+        }
+        let at = (place as u64).saturating_mul(512).saturating_sub(16);
+        input::seek(rt, self.from, at)?;
+        if input::fill(rt, self.from, &mut check)? < 16 {
+            return Err(Failure::Changed.tell(rt));
+        }
+        Ok(check)
+    }
+
+    // The place is that of no whole block: of the bytes behind the last one, or of none.
+    fn show_none(&mut self, rt: &impl System, place: usize) {
+        if place == self.blocks() && self.is_cut() {
+            self.refuse_rest(rt);
+        } else {
+            let _ = self.put_missing(rt, place, Refusal::NoPlace);
+            card::tell_place(rt, self.blocks() as u64);
+        }
+    }
+
+    fn show_one(
+        &mut self,
+        rt: &impl System,
+        place: usize,
+        terminal: Option<File>,
+    ) -> Result<bool, Told> {
+        if self.blocks() <= place {
+            self.show_none(rt, place);
+            return Ok(false);
+        }
+        self.last = self.check_before(rt, place)?;
+        self.place = place;
+        let shown = self.show_to(rt, place.saturating_add(1), terminal);
+        self.is_whole(rt, shown)
+    }
 }
 
 // ---- the words
 
+// Without keys there is no reader.
+fn reader(rt: &impl System) -> Result<Option<Reader>, Told> {
+    if input::has_no_keys(rt) {
+        return Ok(None);
+    }
+    Ok(Some(Keys::read(rt)?.reader()))
+}
+
 // Whether all that was asked for was shown, and no block of it is refused.
-fn show(rt: &impl System, job: Job<'_>, terminal: Option<File>, place: usize) -> bool {
-    let mut lent = [0u8; 65536];
-    let mut text = [0u8; 8192];
-    if job.style.one {
-        return show_one(rt, job, terminal, place, &mut lent, &mut text);
-    }
-    show_all(rt, job, terminal, &mut lent, &mut text)
-}
-
-fn show_from(
-    rt: &impl System,
-    reader: Reader,
-    keyed: bool,
-    one: bool,
-    place: usize,
-    terminal: Option<File>,
-) -> bool {
-    let Some(file) = input::open(rt, input::INPUT) else {
-        return false;
-    };
-    let json = input::is_word(rt, FORM, b"json");
-    let mut from = &file;
-    let size = input::size_of(&mut from);
-    let job = Job {
-        reader,
-        keyed,
-        style: Style { json, one },
-        from,
-        size,
-    };
-    show(rt, job, terminal, place)
-}
-
-// Without keys the reader is one that accepts nothing, and is not asked.
-fn is_shown(rt: &impl System, one: bool, place: usize, terminal: Option<File>) -> bool {
-    let mut room = [0u8; 65];
-    if input::is_word(rt, input::KEYS, b"-") {
-        let none = reading::started(input::of(&room, 0));
-        return show_from(rt, none.reader, false, one, place, terminal);
-    }
-    let n = input::keys(rt, &mut room);
-    if n == 0 {
-        return false;
-    }
-    let s = reading::started(input::of(&room, n));
-    show_from(rt, s.reader, true, one, place, terminal)
-}
-
-fn show_with(rt: &impl System, one: bool, place: usize) {
+fn is_shown(rt: &impl System) -> Result<bool, Told> {
+    let asked = Asked::given(rt)?;
     let terminal = lent::terminal(rt);
-    if is_shown(rt, one, place, terminal) {
+    let reader = reader(rt)?;
+    let file = input::open(rt)?;
+    let output = Output::new(rt, Form::given(rt, FORM))?;
+    let size = input::size_of(&file);
+    let mut showing = Showing {
+        from: &file,
+        size,
+        reader,
+        asked,
+        place: 0,
+        last: [0u8; 16],
+        right: true,
+        output,
+    };
+    match asked {
+        Asked::All => showing.show_all(rt, terminal),
+        Asked::One(place) => showing.show_one(rt, place, terminal),
+    }
+}
+
+pub fn show_image(rt: &impl System) -> Result<(), Told> {
+    if is_shown(rt)? {
         streams::report(rt, b"whole\n");
     }
-}
-
-pub fn show_image(rt: &impl System) {
-    if input::is_word(rt, PLACE, b"all") {
-        show_with(rt, false, 0);
-        return;
-    }
-    let Number::Is(p) = sealing::number(rt, PLACE, 4294967295) else {
-        tell::plain(
-            rt,
-            "the place is not a number below 4,294,967,296: give it in decimal digits",
-        );
-        return;
-    };
-    show_with(rt, true, p as usize);
+    Ok(())
 }

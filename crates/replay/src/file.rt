@@ -2,8 +2,9 @@
 ghost use Rattle.std.specs.Io.{ReadsAtMost};
 
 use std::io::{self, Read};
+use streams::Told;
 
-pub fn read_part<R: Read>(rt: &HostRuntime, input: &mut R, part: &mut [u8]) -> io::Result<usize>
+pub fn read_part<R: Read>(rt: &HostRuntime, input: &mut R, part: &mut [u8]) -> Result<usize, Told>
     ensures { ReadsAtMost result part.new }
 {
     streams::read_part(
@@ -15,12 +16,13 @@ pub fn read_part<R: Read>(rt: &HostRuntime, input: &mut R, part: &mut [u8]) -> i
 }
 
 pub fn is_written(rt: &HostRuntime, answers: &[u8]) -> bool {
-    streams::is_written(
+    streams::write(
         rt,
         &mut io::writer(rt),
         answers,
         "dock: the answers cannot be written to standard output",
     )
+    .is_ok()
 }
 
 // The line `kat` or `mct` is line 1 and is in no file.

@@ -322,7 +322,7 @@ fn main(rt: HostRuntime) {
         2,
         "dock: the file cannot be opened, check its permissions",
     );
-    if let Some(mut input) = named {
+    if let Ok(mut input) = named {
         replay_from(&rt, &mut input, true);
     }
 }

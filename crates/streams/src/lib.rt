@@ -1,39 +1,43 @@
 // What a program reads and writes, and what it tells on standard error where that fails.
 #![tactic(auto)]
 
-ghost use Rattle.std.specs.Prelude.{◌≡◌, ◌≤◌, ◌<◌, IfOk, IsTrue, length, take};
+mod lines;
+
+ghost use Rattle.std.specs.Prelude.{◌≡◌, ◌≤◌, ◌<◌, IfOk, OnOk, length, take};
 ghost use Rattle.std.specs.Io.{ReadsAtMost};
 ghost use Rattle.std.specs.Io.KnownBytes.{Appends, Consumes, IsAtEnd, ReadConsumes};
 
+pub use lines::Lines;
 use std::env::{Env, FillError};
+use std::fmt::Display;
 use std::fs::{File, OpenOptions};
-use std::io::{self, Error, ErrorKind, Read, Write};
+use std::io::{Error, ErrorKind, Read, Write};
 use std::rt::Files;
 
-// Reads once: how many bytes came to the front of `part`, 0 at the end of the input. An error has been told.
-pub fn read_part<R: Read, E: Eprint + Alloc>(
+/// What failed has been told on standard error, so that whoever gets this has nothing to say of it.
+#[derive(Clone, Copy, Debug, PartialEq, Eq)]
+pub struct Told;
+
+/// Reads once: how many bytes came to the front of `part`, 0 at the end of the input.
+pub fn read_part<R: Read, E: Eprint + Alloc, D: Display + Copy + Drop>(
     rt: &E,
     input: &mut R,
     part: &mut [u8],
-    failed: &str,
-) -> io::Result<usize>
+    failed: D,
+) -> Result<usize, Told>
     ensures bound { ReadsAtMost result part.new }
     ensures bytes { ReadConsumes (R.remaining input.old) (R.remaining input.new) result part.new }
 {
-    let got = input.read(part);
-    if let Err(e) = &got {
-        tell(rt, failed, e);
-    }
-    got
+    input.read(part).map_err(|e| tell(rt, failed, &e))
 }
 
-// Reads until `part` is full or the input ends: how many bytes came to its front. An error has been told.
-pub fn read_full<R: Read, E: Eprint + Alloc>(
+/// Reads until `part` is full or the input ends: how many bytes came to its front.
+pub fn read_full<R: Read, E: Eprint + Alloc, D: Display + Copy + Drop>(
     rt: &E,
     input: &mut R,
     part: &mut [u8],
-    failed: &str,
-) -> io::Result<usize>
+    failed: D,
+) -> Result<usize, Told>
     ensures bound { IfOk result (λ n. n ≤ length part.new) }
     ensures bytes { IfOk result (λ n. Consumes (R.remaining input.old) (R.remaining input.new) (take n part.new)) }
     ensures end { IfOk result (λ n. n < length part.new → IsAtEnd (R.remaining input.new)) }
@@ -49,29 +53,23 @@ pub fn read_full<R: Read, E: Eprint + Alloc>(
     Ok(n)
 }
 
-// Whether all of a text was written; where it was not, that has been told. Whoever closes the pipe that is written to, as `head` does,
-// knows that it is cut, and is told nothing.
-pub fn is_written<W: Write, E: Eprint + Alloc>(
+/// Writes all of a text. Whoever closes the pipe that is written to, as `head` does, knows that it is cut, and is told nothing.
+pub fn write<W: Write, E: Eprint + Alloc, D: Display + Copy + Drop>(
     rt: &E,
     output: &mut W,
     text: &[u8],
-    failed: &str,
-) -> bool
-    ensures { IsTrue result → Appends (W.contents output.old) (W.contents output.new) text.now }
+    failed: D,
+) -> Result<(), Told>
+    ensures { OnOk result (Appends (W.contents output.old) (W.contents output.new) text.now) }
 {
     match output.write_all(text) {
-        Ok(()) => true,
-        Err(e) => {
-            if e.kind() != ErrorKind::BrokenPipe {
-                tell(rt, failed, &e);
-            }
-            false
-        }
+        Err(e) if e.kind() == ErrorKind::BrokenPipe => Err(Told),
+        written => written.map_err(|e| tell(rt, failed, &e)),
     }
 }
 
-// Tells on standard error what failed, and why, in one line.
-pub fn tell<E: Eprint + Alloc>(rt: &E, failed: &str, why: &Error) {
+/// Tells on standard error what failed, and why, in one line.
+pub fn tell<E: Eprint + Alloc, D: Display + Copy + Drop>(rt: &E, failed: D, why: &Error) -> Told {
     let _ = match format!(in rt.alloc(); "{why}") {
         Ok(text) => {
             let words = without_number(text.as_str());
@@ -79,44 +77,48 @@ pub fn tell<E: Eprint + Alloc>(rt: &E, failed: &str, why: &Error) {
         }
         Err(_) => eprintln!(rt; "{failed}: {why}"),
     };
+    Told
 }
 
 // The system's words for an error, without the number that std puts behind them.
 fn without_number(text: &str) -> &str {
-    match text.split_once(" (os error ") {
-        Some((words, _)) => words,
-        None => text,
-    }
+    text.split_once(" (os error ")
+        .map_or(text, |(words, _)| words)
 }
 
-// The file that an argument names, opened to be read; where it cannot be opened, that has been told. A missing argument counts as an
-// empty name, and a name that is no text names no file.
-pub fn opened<R: Env + Files + Eprint + Alloc>(rt: &R, i: usize, failed: &str) -> Option<R::File> {
+/// The file that an argument names, opened to be read.
+pub fn opened<R: Env + Files + Eprint + Alloc, D: Display + Copy + Drop>(
+    rt: &R,
+    i: usize,
+    failed: D,
+) -> Result<R::File, Told> {
+    opened_with(rt, i, OpenOptions::new().read(true), failed)
+}
+
+/// The file that an argument names, opened with these options. A missing argument counts as an empty name, and a name that is no text
+/// names no file.
+pub fn opened_with<R: Env + Files + Eprint + Alloc, D: Display + Copy + Drop>(
+    rt: &R,
+    i: usize,
+    options: &OpenOptions,
+    failed: D,
+) -> Result<R::File, Told> {
     let mut room = [0u8; 4096];
     let size = rt.arg(i, &mut room).unwrap_or(0);
     let file = match str::from_utf8(&room[..size]) {
-        Ok(name) => File::open(rt, name),
+        Ok(name) => options.open(rt, name),
         Err(_) => Err(Error::from(ErrorKind::InvalidFilename)),
     };
-    match file {
-        Ok(it) => Some(it),
-        Err(e) => {
-            tell(rt, failed, &e);
-            None
-        }
-    }
+    file.map_err(|e| tell(rt, failed, &e))
 }
 
-// Whether the program was started with an argument of this number; argument 0 is its own name.
+/// Whether the program was started with an argument of this number; argument 0 is its own name.
 pub fn is_given<R: Env>(rt: &R, i: usize) -> bool {
     let mut room = [0u8; 1];
-    match rt.arg(i, &mut room) {
-        Ok(_) | Err(FillError::TooLong) => true,
-        Err(FillError::NotPresent) => false,
-    }
+    !matches!(rt.arg(i, &mut room), Err(FillError::NotPresent))
 }
 
-// Puts a word into descriptor 3, which `dock` lends a program for its word that all went well. Nothing happens where it lends none.
+/// Puts a word into descriptor 3, which `dock` lends a program for its word that all went well. Nothing happens where it lends none.
 pub fn report<R: Files>(rt: &R, word: &[u8]) {
     if !is_lent(rt) {
         return;
@@ -133,21 +135,14 @@ fn is_lent<R: Files>(rt: &R) -> bool {
         return false;
     };
     let size = file.read(&mut room).unwrap_or(0);
-    match str::from_utf8(&room[..size]) {
-        Ok(info) => is_writable(info),
-        Err(_) => false,
-    }
+    str::from_utf8(&room[..size]).is_ok_and(is_writable)
 }
 
 // What the system says of a descriptor has its flags in octal, of which the last digit is how it was opened: 0 to read, 1 to write, 2 for both.
 fn is_writable(info: &str) -> bool {
-    let Some((_, behind)) = info.split_once("flags:\t") else {
-        return false;
-    };
-    match behind.split_once('\n') {
-        Some((flags, _)) => flags.ends_with('1') || flags.ends_with('2'),
-        None => false,
-    }
+    info.split_once("flags:\t")
+        .and_then(|(_, behind)| behind.split_once('\n'))
+        .is_some_and(|(flags, _)| flags.ends_with('1') || flags.ends_with('2'))
 }
 
 #[cfg(test)]
@@ -161,7 +156,7 @@ mod tests {
     }
 
     impl Read for Slow {
-        fn read(&mut self, buf: &mut [u8]) -> io::Result<usize> {
+        fn read(&mut self, buf: &mut [u8]) -> std::io::Result<usize> {
             if self.left == 0 {
                 return Err(Error::from_raw_os_error(5));
             }
@@ -196,7 +191,7 @@ mod tests {
     #[test]
     fn writes_all(rt: HostRuntime) {
         let mut held = Vec::new(rt.alloc());
-        assert!(rt; is_written(&rt, &mut held, b"a line", "a test"));
+        assert!(rt; write(&rt, &mut held, b"a line", "a test").is_ok());
         assert_eq!(rt; held.as_slice(), b"a line".as_slice());
         assert_eq!(rt;
             without_number("No space left on device (os error 28)"),
