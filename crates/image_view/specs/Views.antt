@@ -1,8 +1,22 @@
 -- A stored image: how many blocks it has, and where each of them and its check are (docs/IMAGE.md). Assumes nothing: these are definitions.
-use Rattle.std.specs.Prelude.{ℕ, ◌+◌, ◌*◌, ◌/◌, ◌%◌, Bool, cond, List, [], ◌≡◌, eqb, ltb, length, take, drop}
+use Rattle.std.specs.Prelude.{ℕ, ◌+◌, ◌*◌, ◌/◌, ◌%◌, Bool, cond, List, [], ◌≡◌, Option, None, Some, Result, Ok, Err, eqb, ltb, length, take, drop}
 use Rattle.std.specs.Borrow.{Bor}
 use Rattle.image_layout.specs.Layout.{block_size, check_at}
 use Rattle.image_view.specs.declared.ViewAnswer.{ViewAnswer}
+use Rattle.image_view.specs.declared.ViewRefusal.{ViewRefusal}
+use Rattle.image_view.specs.declared.ViewRefusal.TheVariants.{NotWhole, NoBlock}
+
+-- ---- the refusals
+
+-- the number of each (docs/REFUSALS.md)
+abbrev pub refusal_number : ViewRefusal → ℕ
+refusal_number NotWhole = 6
+refusal_number NoBlock = 20
+
+-- 0 if there is none
+abbrev pub answer_number : {A : Type 0} → Result A ViewRefusal → ℕ
+answer_number (Ok a) = 0
+answer_number (Err e) = refusal_number e
 
 -- ---- what a view holds
 
@@ -44,6 +58,10 @@ offset_of from n place = cond (is_place n place) (place * block_size + from) 0
 
 unfoldable pub size_of : (size len place : ℕ) → ℕ
 size_of size n place = cond (is_place n place) size 0
+
+-- the same where there is such a block
+abbrev pub place_in : (from len place : ℕ) → Option ℕ
+place_in from n place = cond (is_place n place) (Some (place * block_size + from)) None
 
 -- the whole block, and bytes 496 to 511 of it
 abbrev pub block_shown : List ℕ → (place : ℕ) → List ℕ

@@ -4,34 +4,29 @@ use mathlib.Core.List.{List, []}
 use mathlib.Core.Logic.{◌⊎◌, inl, inr}
 use Prim.Native.Nat.{ℕ, zero, suc, ◌+◌, ◌*◌, ◌/◌, ◌%◌, ◌<◌, ◌≤◌}
 use native.Mathlib.Omega.{arith}
-use seplogic.Ra.Ura.{Ura}
-use base.Logic.{SProp, ent, emp}
-use prog.Memory.{Memory}
-use prog.Routine.{Routine}
-use types.Logic.{Logic}
-use contract.Monad.{Fun, fact, fact_i, fact_use}
 use denote.Ref.{Bor}
+use Rattle.std.specs.Prelude.{Result, Ok, Err}
+use Rattle.std.specs.Result.{IsOkAnd, IfOk}
 use lib.ListN.{length, take, drop, get_or}
 use lib.Seq.{drop-drop}
 use Rattle.octets.proofs.Xor.{lt_or_le}
 use Rattle.image_reader_turn.specs.Turn.{cut, handled}
-use Rattle.image_view.specs.Views.{made_number, held_of, held_length, shown_number, part_of, block_shown, check_shown, offset_of, Within, answer_of, block_answer, check_answer}
+use Rattle.image_view.specs.Views.{refusal_number, answer_number, made_number, held_of, held_length, shown_number, part_of, block_shown, check_shown, offset_of, Within, answer_of, block_answer, check_answer}
 use Rattle.image_view.specs.declared.ViewAnswer.{ViewAnswer}
 use Rattle.image_view.specs.declared.View.{View}
-use Rattle.image_view.specs.declared.Shown.{Shown}
+use Rattle.image_view.specs.declared.ViewRefusal.{ViewRefusal}
+use Rattle.image_view.specs.declared.ViewRefusal.TheVariants.{NotWhole, NoBlock}
 use Rattle.image_view.proofs.Pins as pins
 use Rattle.promises.proofs.Image.Words.{given}
-use Rattle.image_view.proofs.made_number.Reads as made-number
-use Rattle.image_view.proofs.held.Reads as held
+use Rattle.image_view.proofs.ViewRefusal.number.Reads as refusal-number
 use Rattle.image_view.proofs.blocks.Reads as blocks
-use Rattle.image_view.proofs.shown_number.Reads as shown-number
 use Rattle.image_view.proofs.block_part.Reads as block_part
 use Rattle.image_view.proofs.check_part.Reads as check_part
 use Rattle.image_view.proofs.block_answer.Reads as block-answer
 use Rattle.image_view.proofs.check_answer.Reads as check-answer
-use Rattle.image_view.specs.contracts.View.of as of
-use Rattle.image_view.specs.contracts.View.block as block
-use Rattle.image_view.specs.contracts.View.check as check
+use Rattle.image_view.proofs.View.of.Reads as of
+use Rattle.image_view.proofs.View.block.Reads as block
+use Rattle.image_view.proofs.View.check.Reads as check
 use Rattle.dock.proofs.dock_view_block.Reads as dock_view_block
 use Rattle.dock.proofs.dock_view_check.Reads as dock_view_check
 
@@ -138,53 +133,21 @@ as_told from size n place = record {
 abbrev pub Same : (r r' : Bor (List ℕ)) → Type 0
 Same r r' = (r.now ≡ r'.now) × (r.ref_ptr.0 ≡ r'.ref_ptr.0) × (r.ref_ptr.1 ≡ r'.ref_ptr.1)
 
-pub made_number_asks_nothing : (κs : _) (a : _) → made-number.Asked κs a
-made_number_asks_nothing κs a = tt
+pub refusal_number_asks_nothing : (κs : _) (a : _) → refusal-number.Asked κs a
+refusal_number_asks_nothing κs a = tt
 
-pub made_number_determined : (κs : _) (a : _) (r r' : _) (s s' : _) → made-number.Post κs a r s → made-number.Post κs a r' s' → r ≡ r'
-made_number_determined κs a r r' s s' p q = p ∙ sym q
+pub refusal_number_determined : (κs : _) (a : _) (r r' : _) (s s' : _) → refusal-number.Post κs a r s → refusal-number.Post κs a r' s' → r ≡ r'
+refusal_number_determined κs a r r' s s' p q = p ∙ sym q
 
--- 6 where the length is no multiple of 512, and 0 where it is one
-pub made_number_as_told : (κs : _) (a : _) (r : _) (s : _) → made-number.Post κs a r s → ((r ≡ 0) × (length a.0.now % 512 ≡ 0)) ⊎ ((r ≡ 6) × (length a.0.now % 512 ≡ 0 → ⊥))
-made_number_as_told κs a r s p = go (length a.0.now % 512) refl
-  where
-    go : (m : ℕ) → length a.0.now % 512 ≡ m → ((r ≡ 0) × (length a.0.now % 512 ≡ 0)) ⊎ ((r ≡ 6) × (length a.0.now % 512 ≡ 0 → ⊥))
-    go zero e = inl (p ∙ pins.made_of_whole _ e, e)
-    go (suc m) e = let h : length a.0.now % 512 ≡ 0 → ⊥ = λ z. omega (arith, e, z) in inr (p ∙ pins.made_of_odd _ h, h)
-
-pub made_number_done : (κs : _) (a : _) (r : _) (s : _) → made-number.Post κs a r s → length a.0.now % 512 ≡ 0 → r ≡ 0
-made_number_done κs a r s p e = p ∙ pins.made_of_whole _ e
-
-pub held_asks_nothing : (κs : _) (a : _) → held.Asked κs a
-held_asks_nothing κs a = tt
-
-pub held_determined : (κs : _) (a : _) (r r' : _) (s s' : _) → held.Post κs a r s → held.Post κs a r' s' → Same r r'
-held_determined κs a r r' s s' p q = (p.0 ∙ sym q.0, p.1.0 ∙ sym q.1.0, p.1.1 ∙ sym q.1.1)
+-- 6 for an image that is not whole blocks, and 20 for a place that is not one of a block
+pub refusal_numbers : (refusal_number NotWhole ≡ 6) × (refusal_number NoBlock ≡ 20)
+refusal_numbers = (refl, refl)
 
 pub blocks_asks_nothing : (κs : _) (a : _) → blocks.Asked κs a
 blocks_asks_nothing κs a = tt
 
 pub blocks_determined : (κs : _) (a : _) (r r' : _) (s s' : _) → blocks.Post κs a r s → blocks.Post κs a r' s' → r ≡ r'
 blocks_determined κs a r r' s s' p q = p ∙ sym q
-
-pub shown_number_asks_nothing : (κs : _) (a : _) → shown-number.Asked κs a
-shown_number_asks_nothing κs a = tt
-
-pub shown_number_determined : (κs : _) (a : _) (r r' : _) (s s' : _) → shown-number.Post κs a r s → shown-number.Post κs a r' s' → r ≡ r'
-shown_number_determined κs a r r' s s' p q = p ∙ sym q
-
--- 20 where the place is not below the number of blocks, and 0 where it is
-pub shown_number_as_told : (κs : _) (a : _) (r : _) (s : _) → shown-number.Post κs a r s
-    → ((r ≡ 0) × (a.1.0 < length a.0.now / 512)) ⊎ ((r ≡ 20) × (length a.0.now / 512 ≤ a.1.0))
-shown_number_as_told κs a r s p = go (lt_or_le a.1.0 (length a.0.now / 512))
-  where
-    go : (a.1.0 < length a.0.now / 512) ⊎ (length a.0.now / 512 ≤ a.1.0)
-        → ((r ≡ 0) × (a.1.0 < length a.0.now / 512)) ⊎ ((r ≡ 20) × (length a.0.now / 512 ≤ a.1.0))
-    go (inl l) = inl (p ∙ pins.shown_below _ a.1.0 l, l)
-    go (inr l) = inr (p ∙ pins.shown_past _ a.1.0 l, l)
-
-pub shown_number_done : (κs : _) (a : _) (r : _) (s : _) → shown-number.Post κs a r s → a.1.0 < length a.0.now / 512 → r ≡ 0
-shown_number_done κs a r s p l = p ∙ pins.shown_below _ a.1.0 l
 
 pub block_part_asks_nothing : (κs : _) (a : _) → block_part.Asked κs a
 block_part_asks_nothing κs a = tt
@@ -239,99 +202,156 @@ dock_view_check_as_told κs a r s p = subst (λ (x : ViewAnswer). AsTold a.0 a.1
 
 -- ---- the view itself
 
--- exception: image_view::of: it returns a struct that holds a slice, for which no `Reads` is made; the same is said over the clauses of its contract
-module _ {M : Type 1} {𝓤 : Ura M} (𝓛 : Logic 𝓤) (mem : Memory → SProp 𝓤) (run : Routine → Fun 𝓤) (κs : _) (a : _) where
-  pub of_asks_nothing : (of.clauses 𝓛 mem run κs a).requires tt ≡ emp 𝓤
-  of_asks_nothing = refl
+-- both refused by the same, or both with parts of which that holds
+abbrev pub SameAnswer : {A : Type 0} → (A → A → Type 0) → (r r' : Result A ViewRefusal) → Type 0
+SameAnswer R (Ok x) (Ok y) = R x y
+SameAnswer R (Ok x) (Err f) = ⊥
+SameAnswer R (Err e) (Ok y) = ⊥
+SameAnswer R (Err e) (Err f) = e ≡ f
 
-  pub of_determined : (r r' : _) (s s' : _) (P : SProp 𝓤)
-      → ent 𝓤 P ((of.clauses 𝓛 mem run κs a).ensures tt r s) → ent 𝓤 P ((of.clauses 𝓛 mem run κs a).ensures tt r' s')
-      → ent 𝓤 P (fact 𝓤 (Same r.image r'.image × (r.made ≡ r'.made)))
-  of_determined r r' s s' P p q = fact_use 𝓤 _ p (λ e. fact_use 𝓤 _ q (λ f. fact_i 𝓤 _ P ((e.0 ∙ sym f.0, e.1.0 ∙ sym f.1.0, e.1.1 ∙ sym f.1.1), e.2 ∙ sym f.2)))
+module _ {A : Type 0} where
+  by_6 : (r : Result A ViewRefusal) → answer_number r ≡ 6 → r ≡ Err NotWhole
+  by_6 (Ok x) e = absurd (omega (arith, e))
+  by_6 (Err NotWhole) e = refl
+  by_6 (Err NoBlock) e = absurd (omega (arith, e))
 
--- 6 and an empty image exactly where the length is no multiple of 512, else the image
-abbrev pub OfSays : (s : Bor (List ℕ)) (v : View) → Type 0
-OfSays s v = (length s.now % 512 ≡ 0 → (v.made ≡ 0) × (v.image.now ≡ s.now))
-    × ((length s.now % 512 ≡ 0 → ⊥) → (v.made ≡ 6) × (v.image.now ≡ []))
+  by_20 : (r : Result A ViewRefusal) → answer_number r ≡ 20 → r ≡ Err NoBlock
+  by_20 (Ok x) e = absurd (omega (arith, e))
+  by_20 (Err NotWhole) e = absurd (omega (arith, e))
+  by_20 (Err NoBlock) e = refl
 
--- 20 and nothing where the place is not below the number of blocks, else 0 and this part
-abbrev pub ShownSays : (v : View) (place : ℕ) (part : List ℕ) (r : Shown) → Type 0
-ShownSays v place part r = (place < length v.image.now / 512 → (r.number ≡ 0) × (r.part.now ≡ part))
-    × (length v.image.now / 512 ≤ place → (r.number ≡ 20) × (r.part.now ≡ []))
+  by_0 : (r : Result A ViewRefusal) (P : A → Type 0) → answer_number r ≡ 0 → IfOk r P → IsOkAnd r P
+  by_0 (Ok x) P e h = h
+  by_0 (Err NotWhole) P e h = absurd (omega (arith, e))
+  by_0 (Err NoBlock) P e h = absurd (omega (arith, e))
 
--- exception: image_view::block: it takes such a struct and returns one
-module _ {M : Type 1} {𝓤 : Ura M} (𝓛 : Logic 𝓤) (mem : Memory → SProp 𝓤) (run : Routine → Fun 𝓤) (κs : _) (a : _) where
-  pub block_asks_nothing : (block.clauses 𝓛 mem run κs a).requires tt ≡ emp 𝓤
-  block_asks_nothing = refl
+  same_answer : (R : A → A → Type 0) (P : A → Type 0) → ((x y : A) → P x → P y → R x y)
+      → (r r' : Result A ViewRefusal) → answer_number r ≡ answer_number r' → IfOk r P → IfOk r' P → SameAnswer R r r'
+  same_answer R P f (Ok x) (Ok y) e h k = f x y h k
+  same_answer R P f (Ok x) (Err NotWhole) e h k = absurd (omega (arith, e))
+  same_answer R P f (Ok x) (Err NoBlock) e h k = absurd (omega (arith, e))
+  same_answer R P f (Err NotWhole) (Ok y) e h k = absurd (omega (arith, e))
+  same_answer R P f (Err NoBlock) (Ok y) e h k = absurd (omega (arith, e))
+  same_answer R P f (Err NotWhole) (Err NotWhole) e h k = refl
+  same_answer R P f (Err NotWhole) (Err NoBlock) e h k = absurd (omega (arith, e))
+  same_answer R P f (Err NoBlock) (Err NotWhole) e h k = absurd (omega (arith, e))
+  same_answer R P f (Err NoBlock) (Err NoBlock) e h k = refl
 
-  pub block_determined : (r r' : _) (s s' : _) (P : SProp 𝓤)
-      → ent 𝓤 P ((block.clauses 𝓛 mem run κs a).ensures tt r s) → ent 𝓤 P ((block.clauses 𝓛 mem run κs a).ensures tt r' s')
-      → ent 𝓤 P (fact 𝓤 (Same r.part r'.part × (r.number ≡ r'.number)))
-  block_determined r r' s s' P p q = fact_use 𝓤 _ p (λ e. fact_use 𝓤 _ q (λ f. fact_i 𝓤 _ P ((e.0 ∙ sym f.0, e.1.0 ∙ sym f.1.0, e.1.1 ∙ sym f.1.1), e.2 ∙ sym f.2)))
+-- what the contracts of `of` and of the two others say of a view and of a part
+abbrev pub Holds : (s : Bor (List ℕ)) (v : View) → Type 0
+Holds s v = (v.image.now ≡ s.now) × Within v.image s 0
 
--- exception: image_view::check: as block
-module _ {M : Type 1} {𝓤 : Ura M} (𝓛 : Logic 𝓤) (mem : Memory → SProp 𝓤) (run : Routine → Fun 𝓤) (κs : _) (a : _) where
-  pub check_asks_nothing : (check.clauses 𝓛 mem run κs a).requires tt ≡ emp 𝓤
-  check_asks_nothing = refl
+abbrev pub Shows : (from size : ℕ) (v : View) (place : ℕ) (part : Bor (List ℕ)) → Type 0
+Shows from size v place part = (part.now ≡ part_of from size v.image.now place) × Within part v.image (offset_of from (length v.image.now) place)
 
-  pub check_determined : (r r' : _) (s s' : _) (P : SProp 𝓤)
-      → ent 𝓤 P ((check.clauses 𝓛 mem run κs a).ensures tt r s) → ent 𝓤 P ((check.clauses 𝓛 mem run κs a).ensures tt r' s')
-      → ent 𝓤 P (fact 𝓤 (Same r.part r'.part × (r.number ≡ r'.number)))
-  check_determined r r' s s' P p q = fact_use 𝓤 _ p (λ e. fact_use 𝓤 _ q (λ f. fact_i 𝓤 _ P ((e.0 ∙ sym f.0, e.1.0 ∙ sym f.1.0, e.1.1 ∙ sym f.1.1), e.2 ∙ sym f.2)))
+pub of_asks_nothing : (κs : _) (a : _) → of.Asked κs a
+of_asks_nothing κs a = tt
 
-module _ {M : Type 1} {𝓤 : Ura M} (𝓛 : Logic 𝓤) (mem : Memory → SProp 𝓤) (run : Routine → Fun 𝓤) (κs : _) where
-  pub of_as_told : (s : Bor (List ℕ)) (v : View) (e : _) (P : SProp 𝓤) → ent 𝓤 P ((of.clauses 𝓛 mem run κs (s, tt)).ensures tt v e) → ent 𝓤 P (fact 𝓤 (OfSays s v))
-  of_as_told s v e P p = fact_use 𝓤 _ p (λ m. fact_i 𝓤 _ P (
-    (λ w. (m.2 ∙ pins.made_of_whole _ w, m.0 ∙ pins.held_of_whole s.now w)),
-    (λ h. (m.2 ∙ pins.made_of_odd _ h, m.0 ∙ pins.held_of_odd s.now h)),
-  ))
+pub of_determined : (κs : _) (a : _) (r r' : _) (s s' : _) → of.Post κs a r s → of.Post κs a r' s' → SameAnswer (λ (v w : View). Same v.image w.image) r r'
+of_determined κs a r r' s s' p q =
+    let x = of.post-apart κs a r s p in
+    let y = of.post-apart κs a r' s' q in
+    same_answer (λ (v w : View). Same v.image w.image) (Holds a.0) (λ v w h k. (h.0 ∙ sym k.0, h.1.0 ∙ sym k.1.0, h.1.1 ∙ sym k.1.1)) r r' (x.number ∙ sym y.number) x.held y.held
 
-  pub block_as_told : (v : View) (place : ℕ) (r : Shown) (e : _) (P : SProp 𝓤) → ent 𝓤 P ((block.clauses 𝓛 mem run κs (v, (place, tt))).ensures tt r e)
-      → ent 𝓤 P (fact 𝓤 (ShownSays v place (take 512 (drop (place * 512) v.image.now)) r))
-  block_as_told v place r e P p = fact_use 𝓤 _ p (λ b. fact_i 𝓤 _ P (
-    (λ l. (b.2 ∙ pins.shown_below _ place l, b.0 ∙ pins.block_below v.image.now place l)),
-    (λ l. (b.2 ∙ pins.shown_past _ place l, b.0 ∙ pins.nothing_past 0 512 v.image.now place l)),
-  ))
+same_parts : (from size : ℕ) (v : View) (place : ℕ) (p q : Bor (List ℕ)) → Shows from size v place p → Shows from size v place q → Same p q
+same_parts from size v place p q h k = (h.0 ∙ sym k.0, h.1.0 ∙ sym k.1.0, h.1.1 ∙ sym k.1.1)
 
-  pub check_as_told : (v : View) (place : ℕ) (r : Shown) (e : _) (P : SProp 𝓤) → ent 𝓤 P ((check.clauses 𝓛 mem run κs (v, (place, tt))).ensures tt r e)
-      → ent 𝓤 P (fact 𝓤 (ShownSays v place (drop 496 (take 512 (drop (place * 512) v.image.now))) r))
-  check_as_told v place r e P p = fact_use 𝓤 _ p (λ b. fact_i 𝓤 _ P (
-    (λ l. (b.2 ∙ pins.shown_below _ place l, b.0 ∙ pins.check_below v.image.now place l ∙ ap (drop 496) (pins.block_below v.image.now place l))),
-    (λ l. (b.2 ∙ pins.shown_past _ place l, b.0 ∙ pins.nothing_past 496 16 v.image.now place l)),
-  ))
+pub block_asks_nothing : (κs : _) (a : _) → block.Asked κs a
+block_asks_nothing κs a = tt
+
+pub block_determined : (κs : _) (a : _) (r r' : _) (s s' : _) → block.Post κs a r s → block.Post κs a r' s' → SameAnswer Same r r'
+block_determined κs a r r' s s' p q =
+    let x = block.post-apart κs a r s p in
+    let y = block.post-apart κs a r' s' q in
+    same_answer Same (Shows 0 512 a.0 a.1.0) (same_parts 0 512 a.0 a.1.0) r r' (x.number ∙ sym y.number) x.part y.part
+
+pub check_asks_nothing : (κs : _) (a : _) → check.Asked κs a
+check_asks_nothing κs a = tt
+
+pub check_determined : (κs : _) (a : _) (r r' : _) (s s' : _) → check.Post κs a r s → check.Post κs a r' s' → SameAnswer Same r r'
+check_determined κs a r r' s s' p q =
+    let x = check.post-apart κs a r s p in
+    let y = check.post-apart κs a r' s' q in
+    same_answer Same (Shows 496 16 a.0 a.1.0) (same_parts 496 16 a.0 a.1.0) r r' (x.number ∙ sym y.number) x.part y.part
+
+-- 6 exactly where the length is no multiple of 512, else a view of the image
+abbrev pub OfSays : (s : Bor (List ℕ)) (r : Result View ViewRefusal) → Type 0
+OfSays s r = (length s.now % 512 ≡ 0 → IsOkAnd r (Holds s)) × ((length s.now % 512 ≡ 0 → ⊥) → r ≡ Err NotWhole)
+
+pub of_as_told : (κs : _) (a : _) (r : _) (s : _) → of.Post κs a r s → OfSays a.0 r
+of_as_told κs a r s p =
+    let x = of.post-apart κs a r s p in (
+      (λ w. by_0 r (Holds a.0) (x.number ∙ pins.made_of_whole _ w) x.held),
+      (λ h. by_6 r (x.number ∙ pins.made_of_odd _ h)),
+    )
+
+-- 20 where the place is not below the number of blocks, else this part
+abbrev pub ShownSays : (v : View) (place : ℕ) (part : List ℕ) (r : Result (Bor (List ℕ)) ViewRefusal) → Type 0
+ShownSays v place part r = (place < length v.image.now / 512 → IsOkAnd r (λ p. p.now ≡ part)) × (length v.image.now / 512 ≤ place → r ≡ Err NoBlock)
+
+shown_says : (from size : ℕ) (v : View) (place : ℕ) (part : List ℕ) (r : Result (Bor (List ℕ)) ViewRefusal)
+    → answer_number r ≡ shown_number (length v.image.now) place → IfOk r (Shows from size v place) → (place < length v.image.now / 512 → part_of from size v.image.now place ≡ part)
+    → ShownSays v place part r
+shown_says from size v place part (Ok p) n h e = ((λ l. h.0 ∙ e l), (λ l. absurd (omega (arith, n, pins.shown_past _ place l))))
+shown_says from size v place part (Err f) n h e =
+    ((λ l. by_0 (Err f) (λ (p : Bor (List ℕ)). p.now ≡ part) (n ∙ pins.shown_below _ place l) tt), (λ l. by_20 (Err f) (n ∙ pins.shown_past _ place l)))
+
+pub block_as_told : (κs : _) (a : _) (r : _) (s : _) → block.Post κs a r s → ShownSays a.0 a.1.0 (take 512 (drop (a.1.0 * 512) a.0.image.now)) r
+block_as_told κs a r s p =
+    let x = block.post-apart κs a r s p in
+    shown_says 0 512 a.0 a.1.0 _ r x.number x.part (pins.block_below a.0.image.now a.1.0)
+
+pub check_as_told : (κs : _) (a : _) (r : _) (s : _) → check.Post κs a r s → ShownSays a.0 a.1.0 (drop 496 (take 512 (drop (a.1.0 * 512) a.0.image.now))) r
+check_as_told κs a r s p =
+    let x = check.post-apart κs a r s p in
+    shown_says 496 16 a.0 a.1.0 _ r x.number x.part (λ l. pins.check_below a.0.image.now a.1.0 l ∙ ap (drop 496) (pins.block_below a.0.image.now a.1.0 l))
 
 -- ---- a view that `of` made shows the part of the lent image itself, no copy, that the numbers name
 
--- what the contracts of `of` and of the two others say
-abbrev pub Made : (s : Bor (List ℕ)) (v : View) → Type 0
-Made s v = (v.image.now ≡ held_of s.now) × Within v.image s 0 × (v.made ≡ made_number (length s.now))
+-- what the numbers name: whether there is a view, and of a view, whether there is such a block, and the part
+abbrev pub Named : (s : Bor (List ℕ)) (m : Result View ViewRefusal) (r : Result (Bor (List ℕ)) ViewRefusal) (a : ViewAnswer) → Type 0
+Named s m r a = (answer_number m ≡ a.made) × (answer_number r ≡ a.number) × IfOk r (λ p. (p.now ≡ take a.length (drop a.offset s.now)) × Within p s a.offset)
 
-abbrev pub ShowsOf : (from size : ℕ) (v : View) (place : ℕ) (r : Shown) → Type 0
-ShowsOf from size v place r = (r.part.now ≡ part_of from size v.image.now place) × Within r.part v.image (offset_of from (length v.image.now) place)
-    × (r.number ≡ shown_number (length v.image.now) place)
+pub view_is_made_as_named : (κs : _) (a : _) (m : _) (e : _) (from size place : ℕ) → of.Post κs a m e → answer_number m ≡ (answer_of from size (length a.0.now) place).made
+unfolding answer_of
+view_is_made_as_named κs a m e from size place p = (of.post-apart κs a m e p).number
 
--- what the numbers name
-abbrev pub Named : (s : Bor (List ℕ)) (v : View) (r : Shown) (a : ViewAnswer) → Type 0
-Named s v r a = (v.made ≡ a.made) × (r.number ≡ a.number) × (r.part.now ≡ take a.length (drop a.offset s.now)) × Within r.part s a.offset
-
-named : (from size : ℕ) (s : Bor (List ℕ)) (v : View) (place : ℕ) (r : Shown) → Made s v → ShowsOf from size v place r → Named s v r (answer_of from size (length s.now) place)
-named from size s v place r m b =
+named : (from size : ℕ) (s : Bor (List ℕ)) (v : View) (place : ℕ) (r : Result (Bor (List ℕ)) ViewRefusal)
+    → 0 ≡ made_number (length s.now) → Holds s v → answer_number r ≡ shown_number (length v.image.now) place → IfOk r (Shows from size v place)
+    → Named s (Ok v) r (answer_of from size (length s.now) place)
+named from size s v place r made h number shows =
     let n = numbers_of_a_view from size s.now place in
-    let e = m.0 in
-    let o : offset_of from (length v.image.now) place ≡ (answer_of from size (length s.now) place).offset = ap (λ (t : List ℕ). offset_of from (length t) place) e ∙ sym n.3 in (
-      m.2 ∙ sym n.0,
-      b.2 ∙ ap (λ (t : List ℕ). shown_number (length t) place) e ∙ sym n.2,
+    let w : length s.now % 512 ≡ 0 = whole_of_0 (length s.now) (sym made) in
+    let e : v.image.now ≡ held_of s.now = h.0 ∙ sym (pins.held_of_whole s.now w) in
+    let o : offset_of from (length v.image.now) place ≡ (answer_of from size (length s.now) place).offset = ap (λ (t : List ℕ). offset_of from (length t) place) e ∙ sym n.3 in
+    (made ∙ sym n.0, number ∙ ap (λ (t : List ℕ). shown_number (length t) place) e ∙ sym n.2, part r shows e o)
+  where
+    whole_of_0 : (n : ℕ) → made_number n ≡ 0 → n % 512 ≡ 0
+    whole_of_0 n z = by (n % 512) refl
+      where
+        by : (m : ℕ) → n % 512 ≡ m → n % 512 ≡ 0
+        by zero q = q
+        by (suc m) q = absurd (omega (arith, z, pins.made_of_odd n (λ k. omega (arith, k, q))))
+
+    part : (r : Result (Bor (List ℕ)) ViewRefusal) → IfOk r (Shows from size v place) → v.image.now ≡ held_of s.now
+        → offset_of from (length v.image.now) place ≡ (answer_of from size (length s.now) place).offset
+        → IfOk r (λ p. (p.now ≡ take (answer_of from size (length s.now) place).length (drop (answer_of from size (length s.now) place).offset s.now)) × Within p s (answer_of from size (length s.now) place).offset)
+    part (Ok p) b e o = (
       b.0 ∙ ap (λ (t : List ℕ). part_of from size t place) e ∙ sym (pins.answer_shows from size s.now place),
-      (b.1.0 ∙ m.1.0, omega (arith, b.1.1, m.1.1, o)),
+      (b.1.0 ∙ h.1.0, omega (arith, b.1.1, h.1.1, o)),
     )
+    part (Err f) b e o = tt
 
-module _ {M : Type 1} {𝓤 : Ura M} (𝓛 : Logic 𝓤) (mem : Memory → SProp 𝓤) (run : Routine → Fun 𝓤) (κs κs' : _) (s : Bor (List ℕ)) (place : ℕ) where
-  pub view_shows_the_block : (v : View) (r : Shown) (e e' : _) (P : SProp 𝓤)
-      → ent 𝓤 P ((of.clauses 𝓛 mem run κs (s, tt)).ensures tt v e) → ent 𝓤 P ((block.clauses 𝓛 mem run κs' (v, (place, tt))).ensures tt r e')
-      → ent 𝓤 P (fact 𝓤 (Named s v r (block_answer (length s.now) place)))
-  view_shows_the_block v r e e' P p q = fact_use 𝓤 _ p (λ m. fact_use 𝓤 _ q (λ b. fact_i 𝓤 _ P (named 0 512 s v place r m b)))
+pub view_shows_the_block : (κs κs' : _) (s : Bor (List ℕ)) (place : ℕ) (v : View) (r : _) (e e' : _)
+    → of.Post κs (s, tt) (Ok v) e → block.Post κs' (v, (place, tt)) r e' → Named s (Ok v) r (block_answer (length s.now) place)
+view_shows_the_block κs κs' s place v r e e' p q =
+    let m = of.post-apart κs (s, tt) (Ok v) e p in
+    let b = block.post-apart κs' (v, (place, tt)) r e' q in
+    named 0 512 s v place r m.number m.held b.number b.part
 
-  pub view_shows_the_check : (v : View) (r : Shown) (e e' : _) (P : SProp 𝓤)
-      → ent 𝓤 P ((of.clauses 𝓛 mem run κs (s, tt)).ensures tt v e) → ent 𝓤 P ((check.clauses 𝓛 mem run κs' (v, (place, tt))).ensures tt r e')
-      → ent 𝓤 P (fact 𝓤 (Named s v r (check_answer (length s.now) place)))
-  view_shows_the_check v r e e' P p q = fact_use 𝓤 _ p (λ m. fact_use 𝓤 _ q (λ b. fact_i 𝓤 _ P (named 496 16 s v place r m b)))
+pub view_shows_the_check : (κs κs' : _) (s : Bor (List ℕ)) (place : ℕ) (v : View) (r : _) (e e' : _)
+    → of.Post κs (s, tt) (Ok v) e → check.Post κs' (v, (place, tt)) r e' → Named s (Ok v) r (check_answer (length s.now) place)
+view_shows_the_check κs κs' s place v r e e' p q =
+    let m = of.post-apart κs (s, tt) (Ok v) e p in
+    let b = check.post-apart κs' (v, (place, tt)) r e' q in
+    named 496 16 s v place r m.number m.held b.number b.part
