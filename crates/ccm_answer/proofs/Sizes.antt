@@ -1,11 +1,12 @@
 -- What the rule on lengths says. Assumes nothing.
-use mathlib.Core.Path.{◌≡◌}
-use mathlib.Core.Bool.{true, ◌&&◌}
+use mathlib.Core.Path.{◌≡◌, refl}
+use mathlib.Core.Bool.{Bool, true, false, ◌&&◌}
 use Prim.Native.Nat.{ℕ, ◌-◌, ◌≤◌}
 use borrow.Author.Tests.{leb-true, eqb-true, eq-eqb, le-leb}
 use lib.Dec.{eqb, leb}
 use Rattle.octets.proofs.Both.{and_true}
-use Rattle.ccm_answer.specs.Answers.{in_profile, sealed_in_profile}
+use Rattle.ccm_answer.specs.Answers.{in_profile, sealed_in_profile, ccm_ruled}
+use Rattle.ccm_answer.specs.declared.CcmAnswer.{CcmAnswer}
 
 pub profile_parts : (nonce ad len : ℕ) → in_profile nonce ad len ≡ true → (nonce ≡ 13) × (ad ≤ 64) × (len ≤ 1024)
 profile_parts nonce ad len e =
@@ -21,3 +22,9 @@ sealed_parts nonce ad len e = let t = and_true (leb 8 len) (in_profile nonce ad 
 
 pub sealed_right : (nonce ad len : ℕ) → 8 ≤ len → in_profile nonce ad (len - 8) ≡ true → sealed_in_profile nonce ad len ≡ true
 sealed_right nonce ad len l e = rw (le-leb 8 len l) e
+
+-- what the result takes counts only where the lengths are in the profile
+pub ruled_alike : (key : ℕ) (size : Bool) (a b out : ℕ) (answer : CcmAnswer) → (size ≡ true → a ≡ b) → ccm_ruled key size a out answer ≡ ccm_ruled key size b out answer
+unfolding ccm_ruled
+ruled_alike key true a b out answer h = rw (h refl)
+ruled_alike key false a b out answer h = refl

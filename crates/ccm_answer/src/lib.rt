@@ -38,60 +38,49 @@ impl CcmAnswer {
 pub fn judge_seal(key: KeyAnswer, nonce: usize, ad: usize, len: usize, room: usize) -> CcmAnswer
     ensures { result ≡ ccm_ruled (key_number key) (in_profile nonce ad len) (len + 8) room CcmDone }
 {
-    let KeyAnswer::Taken = key else {
-        return CcmAnswer::CcmKey;
-    };
-    if !in_profile(nonce, ad, len) {
-        return CcmAnswer::CcmSize;
-    }
-    if room < len + 8 {
-        return CcmAnswer::CcmRoom;
-    }
-    CcmAnswer::CcmDone
+    judge(key, in_profile(nonce, ad, len), len.saturating_add(8), room)
 }
 
 // The answer of opening, except for what only the tag can tell.
 pub fn judge_open(key: KeyAnswer, nonce: usize, ad: usize, len: usize, room: usize) -> CcmAnswer
     ensures { result ≡ ccm_ruled (key_number key) (sealed_in_profile nonce ad len) (len - 8) room CcmDone }
 {
-    let KeyAnswer::Taken = key else {
-        return CcmAnswer::CcmKey;
-    };
-    if !sealed_in_profile(nonce, ad, len) {
-        return CcmAnswer::CcmSize;
+    judge(key, sealed_in_profile(nonce, ad, len), len.saturating_sub(8), room)
+}
+
+// The tests of both calls in their order: the key, the lengths, the room for what is made of the message.
+#[tactic(auto, unfolding(crate::specs::Answers::ccm_ruled))]
+fn judge(key: KeyAnswer, sizes_fit: bool, needed: usize, room: usize) -> CcmAnswer
+    ensures { result ≡ ccm_ruled (key_number key) sizes_fit needed room CcmDone }
+{
+    if !matches!(key, KeyAnswer::Taken) {
+        CcmAnswer::CcmKey
+    } else if !sizes_fit {
+        CcmAnswer::CcmSize
+    } else if room < needed {
+        CcmAnswer::CcmRoom
+    } else {
+        CcmAnswer::CcmDone
     }
-    if room < len - 8 {
-        return CcmAnswer::CcmRoom;
-    }
-    CcmAnswer::CcmDone
 }
 
 // Whether two blocks agree in their first eight bytes. All eight are compared, wherever they differ.
 pub fn same_tag(a: [u8; 16], b: [u8; 16]) -> bool
     ensures { result ≡ same (take 8 a) (take 8 b) }
 {
-    equal(&a[0..8], &b[0..8])
+    equal(&a[..8], &b[..8])
 }
 
 // Whether nonce, associated data and message may have these lengths.
 fn in_profile(nonce: usize, ad: usize, len: usize) -> bool
     ensures { result ≡ in_profile nonce ad len }
 {
-    if nonce != 13 {
-        return false;
-    }
-    if ad > 64 {
-        return false;
-    }
-    len <= 1024
+    nonce == 13 && ad <= 64 && len <= 1024
 }
 
 // The same for a sealed message, which ends in a tag.
 fn sealed_in_profile(nonce: usize, ad: usize, len: usize) -> bool
     ensures { result ≡ sealed_in_profile nonce ad len }
 {
-    if len < 8 {
-        return false;
-    }
-    in_profile(nonce, ad, len - 8)
+    len >= 8 && in_profile(nonce, ad, len - 8)
 }

@@ -12,9 +12,10 @@ use Rattle.octets.specs.Blocks.{Lawful}
 use Rattle.aes_sbox.specs.Sbox.{s_box}
 use Rattle.aes_schedule.specs.Schedule.{schedule_of, key_number}
 use Rattle.aes_schedule.specs.declared.Expanded.{Expanded}
+use Rattle.aes_schedule.specs.declared.KeySchedule.{KeySchedule}
 use Rattle.aes_schedule.proofs.Laws.{schedule_length}
 use Rattle.aes_spec.specs.Cipher.{aes_of, standard}
-use Rattle.aes_spec.specs.Model.{one_way, inverse_words}
+use Rattle.aes_spec.specs.Model.{one_way, inverse_words, inverse_schedule}
 use Rattle.aes_spec.proofs.Equivalent.{equivalent_agrees}
 use Rattle.aes_spec.proofs.Aes.{key_lawful}
 use Rattle.wrap_spec.specs.Wrap.{initial, register, wrapped, unwrapped}
@@ -119,15 +120,15 @@ module _ (key : List ℕ) (x : Expanded) (px : x ≡ schedule_of s_box key) (dat
           let s = wrapped_size_parts (length dat) unwrap_passed.size_right in
           (s.0, s.1, s.2, omega (arith, unwrap_passed.room))
 
-      module _ (v : List ℕ) (pv : v ≡ inverse_words x.schedule.words x.schedule.rounds) (b : Bytes dat) where
-        unwrapped_is : unwrapped (one_way v x.schedule.rounds) dat ≡ unwrapped (aes_of key) dat
+      module _ (v : KeySchedule) (pv : v ≡ inverse_schedule x.schedule) (b : Bytes dat) where
+        unwrapped_is : unwrapped (one_way v.words v.rounds) dat ≡ unwrapped (aes_of key) dat
         unwrapped_is =
             let w = (schedule_of s_box key).schedule.words in
             let nr = (schedule_of s_box key).schedule.rounds in
             let f = unwrap_fits in
             rw (pv, px) (unwrapped_same (one_way (inverse_words w nr) nr) (aes_of key) (equivalent_agrees w (schedule_length s_box key) nr).dec_same (lawful unwrap_passed.key_taken) dat (omega (arith, f.0)) f.2 b)
 
-        module _ (r : WrapAnswer) (pr : r ≡ opening (one_way v x.schedule.rounds) dat) where
+        module _ (r : WrapAnswer) (pr : r ≡ opening (one_way v.words v.rounds) dat) where
           opening_is : r ≡ opening (aes_of key) dat
           opening_is = pr ∙ ap (λ (u : List ℕ). cond (same (register u 0) initial) WrapDone WrongInitial) unwrapped_is
 
@@ -138,7 +139,7 @@ module _ (key : List ℕ) (x : Expanded) (px : x ≡ schedule_of s_box key) (dat
               ∙ sym (ruled_through (key_number x.answer) (wrapped_size_fits (length dat)) (length dat - 8) (length out) (opening (aes_of key) dat) (sym pa ∙ q))
               ∙ ap (λ (y : Expanded). wrap_ruled (key_number y.answer) (wrapped_size_fits (length dat)) (length dat - 8) (length out) (opening (aes_of key) dat)) px
 
-          pub unwrapped_by : (o : List ℕ) → o ≡ opened_over (one_way v x.schedule.rounds) dat out → o ≡ unwrap_output r key dat out
+          pub unwrapped_by : (o : List ℕ) → o ≡ opened_over (one_way v.words v.rounds) dat out → o ≡ unwrap_output r key dat out
           unwrapped_by o po =
               po ∙ ap (λ (u : List ℕ). cond (same (register u 0) initial) (over (drop 8 u) out) out) unwrapped_is
               ∙ each (same (register (unwrapped (aes_of key) dat) 0) initial)

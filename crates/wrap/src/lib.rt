@@ -12,7 +12,7 @@ ghost use Rattle.wrap.specs.Calls as spec;
 use aes_schedule::KeySchedule;
 use aes_schedule_inverse::invert;
 use octets_slice::copy;
-use wrap_answer::{WrapAnswer, is_initial, judge_unwrap, judge_wrap};
+use wrap_answer::{INITIAL_VALUE, WrapAnswer, is_initial, judge_unwrap, judge_wrap};
 use wrap_registers::{passes, unpasses};
 
 // Wraps 16 to 64 bytes of key data, a multiple of 8; the result, 8 bytes more, goes into the first bytes of the output.
@@ -21,15 +21,11 @@ pub fn wrap(key: &[u8], data: &[u8], output: &mut [u8]) -> WrapAnswer
     ensures answer { result ≡ spec.wrap_answer key.now «data».now output.old }
     ensures written { output.new ≡ spec.wrap_output result key.now «data».now output.old }
 {
-    let made = KeySchedule::new(key);
-    let taken = made.answer;
-    let schedule = made.schedule;
-    let words = schedule.words;
-    let answer = judge_wrap(taken, data.len(), output.len());
-    let WrapAnswer::WrapDone = answer else {
-        return answer;
-    };
-    wrap_into(&schedule, data, output);
+    let mut schedule = KeySchedule::none();
+    let answer = judge_wrap(schedule.expand(key), data.len(), output.len());
+    if let WrapAnswer::WrapDone = answer {
+        wrap_into(&schedule, data, output);
+    }
     answer
 }
 
@@ -39,16 +35,14 @@ pub fn unwrap(key: &[u8], data: &[u8], output: &mut [u8]) -> WrapAnswer
     ensures answer { result ≡ spec.unwrap_answer key.now «data».now output.old }
     ensures written { output.new ≡ spec.unwrap_output result key.now «data».now output.old }
 {
-    let made = KeySchedule::new(key);
-    let taken = made.answer;
-    let schedule = made.schedule;
-    let mut words = schedule.words;
-    let answer = judge_unwrap(taken, data.len(), output.len());
-    let WrapAnswer::WrapDone = answer else {
-        return answer;
-    };
-    invert(&mut words, schedule.rounds);
-    unwrap_into(&schedule, data, output)
+    let mut schedule = KeySchedule::none();
+    match judge_unwrap(schedule.expand(key), data.len(), output.len()) {
+        WrapAnswer::WrapDone => {
+            invert(&mut schedule);
+            unwrap_into(&schedule, data, output)
+        }
+        refused => refused,
+    }
 }
 
 // Nothing is refused from here on, so the registers are in the output itself.
@@ -56,11 +50,9 @@ fn wrap_into(schedule: &KeySchedule, given: &[u8], output: &mut [u8])
     requires { (16 ≤ length given.now) × (length given.now ≤ 64) × (length given.now % 8 ≡ 0) × (length given.now + 8 ≤ length output.old) }
     ensures { output.new ≡ over (wrapped (standard schedule.now.words schedule.now.rounds) given.now) output.old }
 {
-    let first = [0xa6u8; 8];
-    copy(&first, output, 0);
+    copy(&INITIAL_VALUE, output, 0);
     copy(given, output, 8);
-    let len = given.len() + 8;
-    passes(schedule, &mut output[0..len]);
+    passes(schedule, &mut output[..given.len() + 8]);
 }
 
 // Works in memory of its own: nothing of a wrapped key whose check is wrong reaches the output.
@@ -70,11 +62,12 @@ fn unwrap_into(schedule: &KeySchedule, given: &[u8], output: &mut [u8]) -> WrapA
     ensures written { output.new ≡ opened_over (one_way schedule.now.words schedule.now.rounds) given.now output.old }
 {
     let w = opened(schedule, given);
-    if !is_initial(&w) {
-        return WrapAnswer::WrongInitial;
+    if is_initial(&w) {
+        copy(&w[8..given.len()], output, 0);
+        WrapAnswer::WrapDone
+    } else {
+        WrapAnswer::WrongInitial
     }
-    copy(&w[8..given.len()], output, 0);
-    WrapAnswer::WrapDone
 }
 
 // The registers at the end, then zeros.
@@ -83,8 +76,8 @@ fn opened(schedule: &KeySchedule, given: &[u8]) -> [u8; 72]
     ensures registers { result ≡ pad_to 72 (unwrapped (one_way schedule.now.words schedule.now.rounds) given.now) }
     ensures size { length (unwrapped (one_way schedule.now.words schedule.now.rounds) given.now) ≡ length given.now }
 {
-    let mut w = [0u8; 72];
+    let mut w = [0; 72];
     copy(given, &mut w, 0);
-    unpasses(schedule, &mut w[0..given.len()]);
+    unpasses(schedule, &mut w[..given.len()]);
     w
 }

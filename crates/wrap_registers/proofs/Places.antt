@@ -1,17 +1,16 @@
 -- The registers, by what is written where. Assumes nothing.
 use mathlib.Core.Path.{◌≡◌, refl, sym, ap, ap₂, ◌∙◌}
-use mathlib.Core.List.{List, [], ◌∷◌, ◌++◌, append-nil, append_assoc}
+use mathlib.Core.List.{List, [], ◌∷◌, ◌++◌, append_assoc}
 use Prim.Native.Nat.{ℕ, zero, suc, ◌+◌, ◌-◌, ◌*◌, ◌/◌, ◌%◌, ◌≤◌, ◌<◌}
 use native.Mathlib.Omega.{arith}
-use lib.ListN.{length, get_or, take, drop, set, replicate, length-drop, drop_of_length-le}
-use lib.Seq.{paste, take_all, take-take, take-add, drop_at, drop-drop, take-append-add, drop-append-add, length-take-le}
+use borrow.Rule.Slice.PartMut.{put_mid}
+use lib.ListN.{length, get_or, take, drop, set, replicate}
+use lib.Seq.{take-add, drop_at, drop-drop, take-append-add, drop-append-add, length-take-le}
 use Rattle.octets.specs.Octets.{xor}
 use Rattle.octets.specs.Words.{bytes_of}
 use Rattle.octets.specs.Blocks.{◌⊕◌}
 use Rattle.octets.proofs.Xor.{xor_zero}
-use Rattle.octets_block.specs.Blocks.{block_at}
-use Rattle.octets_block.proofs.Laws.{block-at}
-use Rattle.wrap_spec.specs.Wrap.{counter, register, replaced, msb, lsb}
+use Rattle.wrap_spec.specs.Wrap.{counter, replaced, msb, lsb}
 
 -- ---- lists
 
@@ -23,15 +22,6 @@ drop_past p q n k e = ap (λ (x : ℕ). drop (x + k) (p ++ q)) (sym e) ∙ drop-
 
 pub drop_take : (n k : ℕ) (s : List ℕ) → n ≤ length s → drop n (take (n + k) s) ≡ take k (drop n s)
 drop_take n k s h = ap (drop n) (take-add n k s) ∙ drop_at (take n s) (take k (drop n s)) n (length-take-le n s h)
-
--- ---- A and R[i] side by side
-
-pub paired : (w : List ℕ) (i : ℕ) → 1 ≤ i → 8 * i + 8 ≤ length w → paste (block_at w 0) 8 (drop (8 * i) w) 8 ≡ register w 0 ++ register w i
-paired w i hi hw =
-    let e : block_at w 0 ≡ take 16 w = block-at w 0 (omega arith) in
-    ap (λ (x : List ℕ). paste x 8 (drop (8 * i) w) 8) e
-    ∙ ap₂ (λ (x y : List ℕ). x ++ take 8 (drop (8 * i) w) ++ y) (take-take 8 16 w (omega arith)) (drop_of_length-le (take 16 w) {i = 16} (omega (arith, length-take-le 16 w (omega arith))))
-    ∙ append-nil (take 8 w ++ take 8 (drop (8 * i) w))
 
 -- ---- the step number
 
@@ -56,18 +46,16 @@ counted_by b t e h = added 7 b t (omega arith) ∙ ap (λ (x : List ℕ). (take 
 
 -- ---- the halves of a block become A and R[i]
 
-pub put_by : (w : List ℕ) (i : ℕ) (b : List ℕ) → 1 ≤ i → 8 * i + 8 ≤ length w → length b ≡ 16 → paste (paste w 0 b 8) (8 * i) (drop 8 b) 8 ≡ replaced w i (msb b) (lsb b)
+pub put_by : (w : List ℕ) (i k : ℕ) (a r : List ℕ) → 1 ≤ i → 8 * i + 8 ≤ length w → k ≡ 8 → length a ≡ 8 → put_mid (8 * i) k (a ++ drop 8 w) r ≡ replaced w i a r
 unfolding replaced
-put_by w i b hi hw e =
+put_by w i k a r hi hw ek la =
     let q = 8 * i - 8 in
-    let lb : length (take 8 b) ≡ 8 = length-take-le 8 b (omega arith) in
     let ei : 8 * i ≡ 8 + q = omega arith in
-    let en : 8 * i + 8 ≡ 8 + (q + 8) = omega arith in
-    let front : take (8 * i) (take 8 b ++ drop 8 w) ≡ take 8 b ++ drop 8 (take (8 * i) w) =
-    rw ei (take_past (take 8 b) (drop 8 w) 8 q lb ∙ ap (take 8 b ++◌) (sym (drop_take 8 q w (omega arith)))) in
-    let rest : drop (8 * i + 8) (take 8 b ++ drop 8 w) ≡ drop (8 * i + 8) w =
-    rw en (drop_past (take 8 b) (drop 8 w) 8 (q + 8) lb ∙ drop-drop (q + 8) 8 w) in
-    let half : take 8 (drop 8 b) ≡ drop 8 b = take_all 8 (drop 8 b) (omega (arith, length-drop 8 b)) in
-    rw (front, rest, half)
-    (append_assoc (take 8 b ++ drop 8 (take (8 * i) w)) (drop 8 b) (drop (8 * i + 8) w)
-    ∙ append_assoc (take 8 b) (drop 8 (take (8 * i) w)) (drop 8 b ++ drop (8 * i + 8) w))
+    let en : 8 * i + k ≡ 8 + (q + 8) = omega arith in
+    let el : 8 + (q + 8) ≡ 8 * i + 8 = omega arith in
+    let front : take (8 * i) (a ++ drop 8 w) ≡ a ++ drop 8 (take (8 * i) w) =
+    rw ei (take_past a (drop 8 w) 8 q la ∙ ap (a ++◌) (sym (drop_take 8 q w (omega arith)))) in
+    let rest : drop k (drop (8 * i) (a ++ drop 8 w)) ≡ drop (8 * i + 8) w =
+    drop-drop k (8 * i) (a ++ drop 8 w) ∙ ap (λ (n : ℕ). drop n (a ++ drop 8 w)) en
+    ∙ drop_past a (drop 8 w) 8 (q + 8) la ∙ drop-drop (q + 8) 8 w ∙ ap (λ (n : ℕ). drop n w) el in
+    ap₂ (λ (x y : List ℕ). x ++ (r ++ y)) front rest ∙ append_assoc a (drop 8 (take (8 * i) w)) (r ++ drop (8 * i + 8) w)

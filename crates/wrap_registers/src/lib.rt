@@ -19,12 +19,11 @@ use wrap_answer::wrapped_size_fits;
 pub fn passes(schedule: &KeySchedule, w: &mut [u8])
     ensures { w.new ≡ passed_over (standard schedule.now.words schedule.now.rounds) w.old }
 {
-    if !wrapped_size_fits(w.len()) {
-        return;
-    }
-    let n = w.len() / 8 - 1;
-    for j in 0..6 {
-        pass(schedule, n, j, w);
+    if wrapped_size_fits(w.len()) {
+        let n = w.len() / 8 - 1;
+        for j in 0..6 {
+            pass(schedule, n, j, w);
+        }
     }
 }
 
@@ -33,8 +32,7 @@ fn pass(schedule: &KeySchedule, n: usize, j: usize, w: &mut [u8])
     requires { (length w.old ≡ 8 * n + 8) × (n ≤ 8) × (j < 6) }
     ensures { w.new ≡ spec.pass (standard schedule.now.words schedule.now.rounds) n j n w.old }
 {
-    for m in 0..n {
-        let i = m + 1;
+    for i in 1..=n {
         step(schedule, n * j + i, i, w);
     }
 }
@@ -44,8 +42,7 @@ fn step(schedule: &KeySchedule, t: usize, i: usize, w: &mut [u8])
     requires { (1 ≤ i) × (8 * i + 8 ≤ length w.old) × (t < 256) }
     ensures { w.new ≡ spec.step (standard schedule.now.words schedule.now.rounds) t i w.old }
 {
-    let given = pair(w, i);
-    let made = encrypt_block(schedule, given);
+    let made = encrypt_block(schedule, pair(w, i));
     put_back(w, i, counter_added(made, t));
 }
 
@@ -53,14 +50,11 @@ fn step(schedule: &KeySchedule, t: usize, i: usize, w: &mut [u8])
 pub fn unpasses(schedule: &KeySchedule, w: &mut [u8])
     ensures { w.new ≡ unpassed_over (one_way schedule.now.words schedule.now.rounds) w.old }
 {
-    if !wrapped_size_fits(w.len()) {
-        return;
-    }
-    let n = w.len() / 8 - 1;
-    let mut j = 6;
-    while j > 0 {
-        j -= 1;
-        unpass(schedule, n, j, w);
+    if wrapped_size_fits(w.len()) {
+        let n = w.len() / 8 - 1;
+        for j in (0..6).rev() {
+            unpass(schedule, n, j, w);
+        }
     }
 }
 
@@ -69,10 +63,8 @@ fn unpass(schedule: &KeySchedule, n: usize, j: usize, w: &mut [u8])
     requires { (length w.old ≡ 8 * n + 8) × (n ≤ 8) × (j < 6) }
     ensures { w.new ≡ spec.unpass (one_way schedule.now.words schedule.now.rounds) n j n w.old }
 {
-    let mut i = n;
-    while i > 0 {
+    for i in (1..=n).rev() {
         unstep(schedule, n * j + i, i, w);
-        i -= 1;
     }
 }
 

@@ -40,9 +40,10 @@ module _ (c : BlockCipher) (n j : ℕ) (w : List ℕ) where
   unfolding pass
   pass_none = refl
 
-  pub pass_more : (m : ℕ) → pass c n j (m + 1) w ≡ step c (n * j + (m + 1)) (m + 1) (pass c n j m w)
+  pub pass_more : (i : ℕ) → 0 < i → step c (n * j + i) i (pass c n j (i - 1) w) ≡ pass c n j i w
   unfolding pass
-  pass_more m = let e : m + 1 ≡ suc m = omega arith in rw e
+  pass_more zero h = absurd (omega arith)
+  pass_more (suc m) h = let e : suc m - 1 ≡ m = omega arith in rw e
 
   pub unpass_more : (i : ℕ) → 0 < i → unpass c n j (i - 1) (unstep c (n * j + i) i w) ≡ unpass c n j i w
   unfolding unpass

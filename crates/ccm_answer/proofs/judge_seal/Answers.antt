@@ -1,28 +1,15 @@
-use Rattle.ccm_answer.proofs.Sizes.{profile_parts}
-use mathlib.Core.Path.{sym, ◌∙◌}
-use borrow.Author.Tests.{lt-ltb, le-ltb}
-use Rattle.ccm_answer.specs.Answers.{ccm_ruled}
+use mathlib.Core.Path.{◌∙◌}
+use Prim.Native.Nat.{◌+◌}
 use native.Mathlib.Omega.{arith}
+use Rattle.aes_schedule.specs.Schedule.{key_number}
+use Rattle.ccm_answer.specs.declared.CcmAnswer.TheVariants.{CcmDone}
+use Rattle.ccm_answer.specs.Answers.{in_profile}
+use Rattle.ccm_answer.proofs.Sizes.{profile_parts, ruled_alike}
 use Rattle.ccm_answer.proofs.judge_seal.Goals as goal
 
-pub returns-in_default : goal.returns-in_default
-unfolding ccm_ruled
-returns-in_default c = rw c.in_default.is
-
-pub returns-then-not-in_profile : goal.returns-then-not-in_profile
-unfolding ccm_ruled
-returns-then-not-in_profile c = rw (c.in-Taken.is, sym c.in_profile.ensures ∙ c.if-not-in_profile.true)
-
-pub overflow_add-len : goal.overflow_add-len
-overflow_add-len c =
-    let a = c.args in
-    let h = profile_parts a.nonce a.ad a.len (sym c.in_profile.ensures ∙ c.if-not-in_profile.false) in
-    omega (arith, h.2)
-
-pub returns-then-room-len : goal.returns-then-room-len
-unfolding ccm_ruled
-returns-then-room-len c = rw (c.in-Taken.is, sym c.in_profile.ensures ∙ c.if-not-in_profile.false, lt-ltb _ _ c.if-room-len.true)
-
 pub returns : goal.returns
-unfolding ccm_ruled
-returns c = rw (c.in-Taken.is, sym c.in_profile.ensures ∙ c.if-not-in_profile.false, le-ltb _ _ c.if-room-len.false)
+returns c =
+    let a = c.args in
+    c.judge.ensures
+    ∙ rw c.in_profile.ensures
+    (ruled_alike (key_number a.key) (in_profile a.nonce a.ad a.len) c.saturating_add.result (a.len + 8) a.room CcmDone (λ e. omega (arith, profile_parts a.nonce a.ad a.len e, c.saturating_add.ensures)))

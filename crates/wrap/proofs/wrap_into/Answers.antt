@@ -1,6 +1,6 @@
 use Rattle.octets_slice.proofs.Laws.{copied_fits}
 use lib.ListN.{length}
-use Prim.Native.Nat.{◌+◌, ◌-◌}
+use Prim.Native.Nat.{◌+◌}
 use mathlib.Core.Path.{◌∙◌, refl}
 use Rattle.aes_spec.specs.Cipher.{standard}
 use Rattle.wrap.proofs.Building.{wrapped_over}
@@ -13,4 +13,4 @@ returns c =
     let c2 = c.copy-2 in
     let c1 = c.copy in
     let a = c.args in
-    wrapped_over (standard a.schedule.now.words a.schedule.now.rounds) a.given.now a.output.now c.requires.0 c.requires.1 c.requires.2 (length a.given.now + 8 - 0) (omega arith) _ _ _ _ (c1.ensures ∙ copied_fits _ 0 a.output.now (omega (arith, c.requires.3))) (c2.ensures ∙ copied_fits a.given.now 8 _ (omega (arith, c.requires.3, c1.auto.w))) ps.ensures ps.auto.w refl
+    wrapped_over (standard a.schedule.now.words a.schedule.now.rounds) a.given.now a.output.now c.requires.0 c.requires.1 c.requires.2 (length a.given.now + 8) refl _ _ _ _ (c1.ensures ∙ copied_fits _ 0 a.output.now (omega (arith, c.requires.3))) (c2.ensures ∙ copied_fits a.given.now 8 _ (omega (arith, c.requires.3, c1.auto.w))) ps.ensures ps.auto.w refl

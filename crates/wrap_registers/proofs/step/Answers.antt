@@ -14,4 +14,4 @@ returns c =
     let n : length e.result ≡ 16 = search rules in
     b.ensures
     ∙ step_by (standard a.schedule.now.words a.schedule.now.rounds) a.t a.i a.w.now e.result c.counter_added.result
-    (e.ensures ∙ ap (encrypt_block s_box a.schedule.now.words a.schedule.now.rounds) c.pair-given.ensures) n c.counter_added.ensures
+    (e.ensures ∙ ap (encrypt_block s_box a.schedule.now.words a.schedule.now.rounds) c.pair.ensures) n c.counter_added.ensures

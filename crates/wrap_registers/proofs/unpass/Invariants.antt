@@ -7,6 +7,3 @@ use Rattle.wrap_registers.proofs.unpass.Given as goal
 
 abbrev pub invariant-loop-i : goal.invariant-loop-i
 invariant-loop-i l = (l.i ≤ l.n) × (length l.w ≡ length l.initial.w) × (unpass (one_way l.schedule.words l.schedule.rounds) l.n l.j l.i l.w ≡ unpass (one_way l.schedule.words l.schedule.rounds) l.n l.j l.n l.initial.w)
-
-abbrev pub decreases-loop-i : goal.decreases-loop-i
-decreases-loop-i l = l.i

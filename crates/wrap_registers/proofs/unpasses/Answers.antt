@@ -9,10 +9,10 @@ use borrow.Author.Rules.{rules}
 use native.Mathlib.Omega.{arith}
 use Rattle.wrap_registers.proofs.unpasses.Goals as goal
 
-pub returns-then-not-wrapped_size_fits : goal.returns-then-not-wrapped_size_fits
-returns-then-not-wrapped_size_fits c =
+pub returns-else-wrapped_size_fits : goal.returns-else-wrapped_size_fits
+returns-else-wrapped_size_fits c =
     let a = c.args in
-    unpassed_wrong (one_way a.schedule.now.words a.schedule.now.rounds) a.w.now (sym c.wrapped_size_fits.ensures ∙ c.if-not-wrapped_size_fits.true)
+    unpassed_wrong (one_way a.schedule.now.words a.schedule.now.rounds) a.w.now (sym c.wrapped_size_fits.ensures ∙ c.if-wrapped_size_fits.false)
 
 pub loop-j-init : goal.loop-j-init
 loop-j-init c = (omega arith, refl, refl)
@@ -28,12 +28,12 @@ loop-j-preserved c =
       ap (unpasses k n (l.j - 1)) c.unpass.ensures ∙ unpasses_more k n l.w l.j (omega arith) ∙ l.invariant.2,
     )
 
-pub returns : goal.returns
-returns c =
+pub returns-after-loop-j : goal.returns-after-loop-j
+returns-after-loop-j c =
     let l = c.loop-j in
     let a = c.args in
     let k = one_way a.schedule.now.words a.schedule.now.rounds in
     let n = length a.w.now / 8 - 1 in
     let e : l.j ≡ 0 = omega arith in
     sym (unpasses_none k n l.w) ∙ ap (λ (x : ℕ). unpasses k n x l.w) (sym e) ∙ l.invariant.2
-    ∙ unpasses_whole k a.w.now ∙ unpassed_right k a.w.now (sym c.wrapped_size_fits.ensures ∙ c.if-not-wrapped_size_fits.false)
+    ∙ unpasses_whole k a.w.now ∙ unpassed_right k a.w.now (sym c.wrapped_size_fits.ensures ∙ c.if-wrapped_size_fits.true)
