@@ -87,7 +87,7 @@ use Rattle.wrap_answer.specs.Answers.{wrap_number}
 use Rattle.wrap_answer.specs.declared.WrapAnswer.{WrapAnswer}
 use Rattle.wrap_answer.specs.declared.WrapAnswer.TheVariants.{WrapDone, WrapKey, WrapSize, WrapRoom, WrongInitial}
 use Rattle.wrap_answer.proofs.Pins.{wrap_numbers}
-use Rattle.image_view.specs.Views.{made_number, held_length, shown_number, answer_of}
+use Rattle.image_view.specs.Views.{made_number, held_length, shown_number, answer_number, answer_of}
 use Rattle.image_view.proofs.Pins as views
 use Rattle.ccm_answer.specs.Answers.{ccm_number}
 use Rattle.ccm_answer.specs.declared.CcmAnswer.{CcmAnswer}
@@ -127,8 +127,9 @@ use Rattle.image_block_judge.proofs.judge.Reads as judge
 use Rattle.image_reader.proofs.read_complete.Reads as read_complete
 use Rattle.wrap.proofs.wrap.Reads as wrap
 use Rattle.wrap.proofs.unwrap.Reads as unwrap
-use Rattle.image_view.proofs.made_number.Reads as made-number
-use Rattle.image_view.proofs.shown_number.Reads as shown-number
+use Rattle.image_view.proofs.View.of.Reads as view-of
+use Rattle.image_view.proofs.View.block.Reads as view-block
+use Rattle.image_view.proofs.View.check.Reads as view-check
 use Rattle.image_view.proofs.block_answer.Reads as block-answer
 use Rattle.image_view.proofs.check_answer.Reads as check-answer
 use Rattle.ccm.proofs.seal.Reads as seal
@@ -348,8 +349,9 @@ pub data Gives : Row → ℕ → Type 0 where
   by_read_resume : (κs : _) (a : _) (r : _) (s : _) → read_resume.Post κs a r s → Gives resuming (resume_number r.answer)
   by_wrap : (κs : _) (a : _) (r : _) (s : _) → wrap.Post κs a r s → Gives wrapping (wrap_number r)
   by_unwrap : (κs : _) (a : _) (r : _) (s : _) → unwrap.Post κs a r s → Gives unwrapping (wrap_number r)
-  by_made_number : (κs : _) (a : _) (r : _) (s : _) → made-number.Post κs a r s → Gives viewing r
-  by_shown_number : (κs : _) (a : _) (r : _) (s : _) → shown-number.Post κs a r s → Gives showing r
+  by_view_of : (κs : _) (a : _) (r : _) (s : _) → view-of.Post κs a r s → Gives viewing (answer_number r)
+  by_view_block : (κs : _) (a : _) (r : _) (s : _) → view-block.Post κs a r s → Gives showing (answer_number r)
+  by_view_check : (κs : _) (a : _) (r : _) (s : _) → view-check.Post κs a r s → Gives showing (answer_number r)
   by_block_answer_made : (κs : _) (a : _) (r : _) (s : _) → block-answer.Post κs a r s → Gives viewing r.made
   by_block_answer : (κs : _) (a : _) (r : _) (s : _) → block-answer.Post κs a r s → Gives showing r.number
   by_check_answer_made : (κs : _) (a : _) (r : _) (s : _) → check-answer.Post κs a r s → Gives viewing r.made
@@ -602,8 +604,9 @@ no_call_gives_another c n (by_receive_complete κs a r s p) = found _ _ (of_comp
 no_call_gives_another c n (by_read_resume κs a r s p) = found _ _ (of_resume r.answer)
 no_call_gives_another c n (by_wrap κs a r s p) = found _ _ (of_wrap r (wrap_as_told κs a r s p).1)
 no_call_gives_another c n (by_unwrap κs a r s p) = found _ _ (of_unwrap r)
-no_call_gives_another c n (by_made_number κs a r s p) = found (0 ∷ order viewing) r (rw p (of_made _))
-no_call_gives_another c n (by_shown_number κs a r s p) = found (0 ∷ order showing) r (rw p (of_shown _ a.1.0))
+no_call_gives_another c n (by_view_of κs a r s p) = found (0 ∷ order viewing) (answer_number r) (rw p.number (of_made _))
+no_call_gives_another c n (by_view_block κs a r s p) = found (0 ∷ order showing) (answer_number r) (rw p.number (of_shown _ a.1.0))
+no_call_gives_another c n (by_view_check κs a r s p) = found (0 ∷ order showing) (answer_number r) (rw p.number (of_shown _ a.1.0))
 no_call_gives_another c n (by_block_answer_made κs a r s p) = found (0 ∷ order viewing) r.made (subst (λ (x : ViewAnswer). among (0 ∷ order viewing) x.made ≡ true) (sym p) (of_view 0 512 a.0 a.1.0).0)
 no_call_gives_another c n (by_block_answer κs a r s p) = found (0 ∷ order showing) r.number (subst (λ (x : ViewAnswer). among (0 ∷ order showing) x.number ≡ true) (sym p) (of_view 0 512 a.0 a.1.0).1)
 no_call_gives_another c n (by_check_answer_made κs a r s p) = found (0 ∷ order viewing) r.made (subst (λ (x : ViewAnswer). among (0 ∷ order viewing) x.made ≡ true) (sym p) (of_view 496 16 a.0 a.1.0).0)
