@@ -72,7 +72,7 @@ loop-i-2-preserved c = let t = c.loop-m in
     let k = c.loop-i in
     let a = c.args in
     let sub = entry a.sbox.now in
-    let size = c.smaller-size.result in
+    let size = c.min-size.result in
     let e : min l.i a.n ≡ l.i = omega arith in
     let f : l.i + t.m ≡ min (l.i + size) a.n = omega arith in
     let q = l.invariant.1.1.1 (omega arith) in
