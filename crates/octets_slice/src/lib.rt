@@ -1,7 +1,7 @@
-// Slices of bytes: copied into another where there is room, the smaller of two lengths, a part of one, and whether two are the same.
+// Slices of bytes: copied into another where there is room, a part of one, and whether two are the same.
 #![tactic(auto)]
 
-ghost use Rattle.std.specs.Prelude.{◌≡◌, ◌+◌, ◌-◌, min, eqb, leb, length, take, drop};
+ghost use Rattle.std.specs.Prelude.{◌≡◌, ◌+◌, ◌-◌, eqb, leb, length, take, drop};
 ghost use Rattle.octets.specs.Octets.{same};
 ghost use Rattle.octets_slice.specs.Slices.{copied};
 
@@ -20,12 +20,6 @@ pub fn has_room(length: usize, at: usize, n: usize) -> bool
     ensures { result ≡ leb (at + n) length }
 {
     n <= length && at <= length - n
-}
-
-pub fn smaller(a: usize, b: usize) -> usize
-    ensures { result ≡ min a b }
-{
-    a.min(b)
 }
 
 // The bytes from `from` up to `to`, as far as there are any.

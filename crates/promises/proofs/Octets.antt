@@ -13,7 +13,6 @@ use Rattle.octets_block.proofs.store.Reads as store
 use Rattle.octets_block.proofs.xor.Reads as xor
 use Rattle.octets_slice.proofs.equal.Reads as equal
 use Rattle.octets_slice.proofs.part.Reads as part
-use Rattle.octets_slice.proofs.smaller.Reads as smaller
 
 pub load_asks_nothing : (κs : _) (a : _) → load.Asked κs a
 load_asks_nothing κs a = tt
@@ -53,12 +52,6 @@ store_determined κs a r r' s s' p q = p ∙ sym q
 pub store_refused_keeps : (κs : _) (a : _) (r : _) (s : _) → store.Post κs a r s → leb (a.1.0 + length a.1.1.0) (length a.0.now) ≡ false → s.0.now ≡ a.0.now
 unfolding copied
 store_refused_keeps κs a r s p e = p ∙ rw e
-
-pub smaller_asks_nothing : (κs : _) (a : _) → smaller.Asked κs a
-smaller_asks_nothing κs a = tt
-
-pub smaller_determined : (κs : _) (a : _) (r r' : _) (s s' : _) → smaller.Post κs a r s → smaller.Post κs a r' s' → r ≡ r'
-smaller_determined κs a r r' s s' p q = p ∙ sym q
 
 pub part_asks_nothing : (κs : _) (a : _) → part.Asked κs a
 part_asks_nothing κs a = tt
