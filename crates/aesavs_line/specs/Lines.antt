@@ -1,9 +1,7 @@
 -- The lines of a response file (AESAVS, 6; docs/REPLAY.md has their form). Assumes nothing: these are definitions.
-use Rattle.std.specs.Prelude.{ℕ, ◌-◌, Bool, cond, List, [], ◌∷◌, eqb, ltb, length, get_or, take, drop}
+use Rattle.std.specs.Prelude.{ℕ, ◌-◌, Bool, cond, Option, Some, None, List, [], ◌∷◌, eqb, ltb, length, get_or, take, drop}
 use Rattle.octets.specs.Octets.{same}
 use Rattle.text_decimal.specs.Numbers.{number_of}
-use Rattle.text_decimal.specs.declared.Number.{Number}
-use Rattle.text_decimal.specs.declared.Number.TheVariants.{Is, Not}
 use Rattle.aesavs_line.specs.declared.Run.TheVariants.{Known, Monte}
 use Rattle.aesavs_line.specs.declared.Way.TheVariants.{Encrypting, Decrypting}
 use Rattle.aesavs_line.specs.declared.Field.{Field}
@@ -39,9 +37,9 @@ abbrev pub starts : List ℕ → List ℕ → Bool
 starts name s = same (take (length name) s) name
 
 -- a COUNT is a decimal number that fits 64 bits
-abbrev pub counts : Number → Line
-counts (Is n) = Counts n
-counts Not = Outside
+abbrev pub counts : Option ℕ → Line
+counts (Some n) = Counts n
+counts None = Outside
 
 unfoldable pub count_of : List ℕ → Line
 count_of s = counts (number_of s 18446744073709551615)

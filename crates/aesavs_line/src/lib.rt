@@ -1,28 +1,31 @@
 // One line of a response file of AESAVS, and of the line before it that says which run the file is of.
 #![tactic(auto)]
 
-ghost use Rattle.std.specs.Prelude.{◌≡◌, length, ◌-◌};
-ghost use Rattle.aesavs_line.specs.Lines.{starts, count_of, field_line, mark_line, line_of, value_at, value_of, stripped};
+ghost use Rattle.std.specs.Prelude.{◌≡◌, [], ◌∷◌};
+ghost use Rattle.std.specs.List.{find};
+ghost use Rattle.std.specs.Option.{unwrap_or};
+ghost use Rattle.aesavs_line.specs.Lines.{count_of, field_line, mark_line, line_of, name_of, starts, value_of, stripped};
+ghost use Rattle.aesavs_line.specs.declared.Field.TheVariants.{Key, Iv, Plaintext, Ciphertext};
 
-use octets_slice::{equal, part};
-use text_decimal::{Number, decimal};
+use octets_slice::part;
+use text_decimal::decimal;
 
 // The run that a file is of: known answers or Monte Carlo.
-#[derive(Clone, Copy)]
+#[derive(Clone, Copy, Debug, PartialEq, Eq)]
 pub enum Run {
     Known,
     Monte,
 }
 
 // What the records of a section do.
-#[derive(Clone, Copy)]
+#[derive(Clone, Copy, Debug, PartialEq, Eq)]
 pub enum Way {
     Encrypting,
     Decrypting,
 }
 
 // What a record has in addition to its COUNT.
-#[derive(Clone, Copy)]
+#[derive(Clone, Copy, Debug, PartialEq, Eq)]
 pub enum Field {
     Key,
     Iv,
@@ -31,7 +34,7 @@ pub enum Field {
 }
 
 // What a line is. The value of a field is what follows its name: `value` returns it.
-#[derive(Clone, Copy)]
+#[derive(Clone, Copy, Debug, PartialEq, Eq)]
 pub enum Line {
     Skipped,
     Opens(Run),
@@ -42,105 +45,102 @@ pub enum Line {
 }
 
 // What a line without its end is.
+#[tactic(auto, using(crate::proofs::Laws::fronts), unfolding(crate::specs::Lines::line_of))]
 pub fn read_line(line: &[u8]) -> Line
     ensures { result ≡ line_of line.now }
 {
-    if 4096 < line.len() {
+    if line.len() > 4096 {
         return Line::Outside;
     }
-    if line.len() == 0 {
+    if line.is_empty() || line.starts_with(b"#") {
         return Line::Skipped;
     }
-    if line[0] == b'#' {
-        return Line::Skipped;
-    }
-    if starts_with(line, b"COUNT = ") {
-        return counted(part(line, 8, line.len()));
+    if let Some(digits) = line.strip_prefix(b"COUNT = ") {
+        return counted(digits);
     }
     mark_line(line)
 }
 
 // The word of a field's line that means bytes; nothing before it is taken.
+#[tactic(auto, using(std::proofs::lemmas::List::take_rest), unfolding(crate::specs::Lines::value_of))]
 pub fn value(line: &[u8], field: Field) -> &[u8]
     ensures { result.now ≡ value_of line.now field }
 {
-    part(line, value_at(field), line.len())
+    part(line, name_of(field).len(), line.len())
 }
 
 // A line without the carriage return that may end it.
+#[tactic(auto, using(crate::proofs::Laws::last_is), unfolding(crate::specs::Lines::stripped))]
 pub fn strip(line: &[u8]) -> &[u8]
     ensures { result.now ≡ stripped line.now }
 {
-    let n = line.len();
-    if n == 0 {
-        return part(line, 0, n);
-    }
-    if line[n - 1] == 13 {
-        return part(line, 0, n - 1);
-    }
-    part(line, 0, n)
+    line.strip_suffix(b"\r").unwrap_or(line)
 }
 
-// Whether a line begins with a name.
-fn starts_with(line: &[u8], name: &[u8]) -> bool
-    ensures { result ≡ starts name.now line.now }
-{
-    equal(part(line, 0, name.len()), name)
-}
-
+#[tactic(auto, unfolding(crate::specs::Lines::count_of))]
 fn counted(digits: &[u8]) -> Line
     ensures { result ≡ count_of digits.now }
 {
-    match decimal(digits, 18446744073709551615) {
-        Number::Is(n) => Line::Counts(n),
-        Number::Not => Line::Outside,
-    }
+    decimal(digits, u64::MAX).map_or(Line::Outside, Line::Counts)
 }
 
 fn mark_line(line: &[u8]) -> Line
     ensures { result ≡ mark_line line.now }
 {
-    if equal(line, b"kat") {
-        return Line::Opens(Run::Known);
+    match mark(line) {
+        Some(mark) => mark,
+        None => field_line(line),
     }
-    if equal(line, b"mct") {
-        return Line::Opens(Run::Monte);
+}
+
+// The words and the marks that are whole lines.
+#[tactic(auto, using(crate::proofs::Laws::words), unfolding(crate::specs::Lines::mark_line))]
+fn mark(line: &[u8]) -> Option<Line>
+    ensures { unwrap_or result (field_line line.now) ≡ mark_line line.now }
+{
+    match line {
+        b"kat" => Some(Line::Opens(Run::Known)),
+        b"mct" => Some(Line::Opens(Run::Monte)),
+        b"[ENCRYPT]" => Some(Line::Marks(Way::Encrypting)),
+        b"[DECRYPT]" => Some(Line::Marks(Way::Decrypting)),
+        _ => None,
     }
-    if equal(line, b"[ENCRYPT]") {
-        return Line::Marks(Way::Encrypting);
-    }
-    if equal(line, b"[DECRYPT]") {
-        return Line::Marks(Way::Decrypting);
-    }
-    field_line(line)
 }
 
 fn field_line(line: &[u8]) -> Line
     ensures { result ≡ field_line line.now }
 {
-    if starts_with(line, b"KEY = ") {
-        return Line::Value(Field::Key);
+    match field_of(line) {
+        Some(field) => Line::Value(field),
+        None => Line::Outside,
     }
-    if starts_with(line, b"IV = ") {
-        return Line::Value(Field::Iv);
-    }
-    if starts_with(line, b"PLAINTEXT = ") {
-        return Line::Value(Field::Plaintext);
-    }
-    if starts_with(line, b"CIPHERTEXT = ") {
-        return Line::Value(Field::Ciphertext);
-    }
-    Line::Outside
 }
 
-// Where the value of a field begins in its line: after its name, a space, the sign and a space.
-fn value_at(field: Field) -> usize
-    ensures { result ≡ value_at field }
+// The field whose name a line begins with.
+fn field_of(line: &[u8]) -> Option<Field>
+    ensures { result ≡ find (λ field. starts (name_of field) line.now) (Key ∷ Iv ∷ Plaintext ∷ Ciphertext ∷ []) }
+{
+    [Field::Key, Field::Iv, Field::Plaintext, Field::Ciphertext]
+        .iter()
+        .copied()
+        .find(|field| is_of(line, *field))
+}
+
+#[tactic(auto, using(crate::proofs::Laws::same_turned))]
+fn is_of(line: &[u8], field: Field) -> bool
+    ensures { result ≡ starts (name_of field) line.now }
+{
+    line.starts_with(name_of(field))
+}
+
+// What a field's line begins with: its name, and the sign between two spaces.
+fn name_of(field: Field) -> &'static [u8]
+    ensures { result.now ≡ name_of field }
 {
     match field {
-        Field::Key => 6,
-        Field::Iv => 5,
-        Field::Plaintext => 12,
-        Field::Ciphertext => 13,
+        Field::Key => b"KEY = ",
+        Field::Iv => b"IV = ",
+        Field::Plaintext => b"PLAINTEXT = ",
+        Field::Ciphertext => b"CIPHERTEXT = ",
     }
 }
