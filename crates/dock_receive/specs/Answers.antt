@@ -1,17 +1,15 @@
 -- What a receiver answers, as C has it: numbers in place of enums. Assumes nothing: these are definitions.
-use Rattle.std.specs.Prelude.{ℕ, List}
+use Rattle.std.specs.Prelude.{ℕ, List, Option, None, Some}
 use Rattle.image_reasons.specs.Reasons.{value_of}
-use Rattle.image_reasons.specs.declared.Value.{Value}
-use Rattle.image_reasons.specs.declared.Value.TheVariants.{Held, NoValue}
 use Rattle.image_receiver_answer.specs.Answers.{receive_number, receive_value, begin_number, begin_value}
 use Rattle.image_receiver.specs.declared.ReceiveStarted.{ReceiveStarted}
 use Rattle.image_receiver.specs.declared.ReceiveDone.{ReceiveDone}
 use Rattle.dock_receive.specs.declared.ReceiverAnswer.{ReceiverAnswer}
 
 -- the value that a refusal holds, 0 where it holds none
-abbrev pub value_in : Value → ℕ
-value_in (Held n) = n
-value_in NoValue = 0
+abbrev pub value_in : Option ℕ → ℕ
+value_in (Some n) = n
+value_in None = 0
 
 abbrev pub start_told : ReceiveStarted → ReceiverAnswer
 start_told s = record { number = begin_number s.answer; value = value_in (value_of (begin_value s.answer)); receiver = s.receiver }

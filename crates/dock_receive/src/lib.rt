@@ -1,10 +1,9 @@
 // What a receiver answers, as C has it: numbers in place of enums.
 #![tactic(auto)]
 
-ghost use Rattle.std.specs.Prelude.{◌≡◌, List};
-ghost use Rattle.dock_receive.specs.Answers.{value_in, start_told, done_told};
+ghost use Rattle.std.specs.Prelude.{◌≡◌};
+ghost use Rattle.dock_receive.specs.Answers.{start_told, done_told};
 
-use image_reasons::Value;
 use image_receiver::{ReceiveDone, ReceiveStarted, Receiver};
 
 // The answer to a start or to a block: its number, the value that a refusal holds, 0 where it holds none, and the receiver.
@@ -19,32 +18,19 @@ pub struct ReceiverAnswer {
 pub fn start_told(s: ReceiveStarted) -> ReceiverAnswer
     ensures { result ≡ start_told s }
 {
-    let answer = s.answer;
-    let receiver = s.receiver;
     ReceiverAnswer {
-        number: answer.number(),
-        value: value_in(answer.value()),
-        receiver,
+        number: s.answer.number(),
+        value: s.answer.value().unwrap_or(0),
+        receiver: s.receiver,
     }
 }
 
 pub fn done_told(d: ReceiveDone) -> ReceiverAnswer
     ensures { result ≡ done_told d }
 {
-    let answer = d.answer;
-    let receiver = d.receiver;
     ReceiverAnswer {
-        number: answer.number(),
-        value: value_in(answer.value()),
-        receiver,
-    }
-}
-
-fn value_in(value: Value) -> u32
-    ensures { result ≡ value_in value }
-{
-    match value {
-        Value::Held(n) => n,
-        Value::NoValue => 0,
+        number: d.answer.number(),
+        value: d.answer.value().unwrap_or(0),
+        receiver: d.receiver,
     }
 }

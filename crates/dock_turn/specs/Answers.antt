@@ -5,8 +5,14 @@ use Rattle.image_reader_tally.specs.Tally.{stop_number}
 use Rattle.image_reader_tally.specs.declared.Stop.{Stop}
 use Rattle.image_reader_tally.specs.declared.Stop.TheVariants.{End, Asked, Lent, Room, At}
 use Rattle.image_reader.specs.declared.Turn.{Turn}
-use Rattle.dock_turn.specs.declared.Told.{Told}
 use Rattle.dock_turn.specs.declared.TurnAnswer.{TurnAnswer}
+
+-- a refusal of the whole turn, or the reason of the block that stopped it, the value that it holds, and the block's place
+pub record Told : Type 0 where
+  pub number : ℕ
+  pub reason : ℕ
+  pub value : ℕ
+  pub place : ℕ
 
 -- the value that a refusal holds, 0 where it holds none
 abbrev pub value_held : List ℕ → ℕ
