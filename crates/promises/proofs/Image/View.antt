@@ -249,9 +249,7 @@ of_asks_nothing κs a = tt
 
 pub of_determined : (κs : _) (a : _) (r r' : _) (s s' : _) → of.Post κs a r s → of.Post κs a r' s' → SameAnswer (λ (v w : View). Same v.image w.image) r r'
 of_determined κs a r r' s s' p q =
-    let x = of.post-apart κs a r s p in
-    let y = of.post-apart κs a r' s' q in
-    same_answer (λ (v w : View). Same v.image w.image) (Holds a.0) (λ v w h k. (h.0 ∙ sym k.0, h.1.0 ∙ sym k.1.0, h.1.1 ∙ sym k.1.1)) r r' (x.number ∙ sym y.number) x.held y.held
+    same_answer (λ (v w : View). Same v.image w.image) (Holds a.0) (λ v w h k. (h.0 ∙ sym k.0, h.1.0 ∙ sym k.1.0, h.1.1 ∙ sym k.1.1)) r r' (p.0 ∙ sym q.0) p.1 q.1
 
 same_parts : (from size : ℕ) (v : View) (place : ℕ) (p q : Bor (List ℕ)) → Shows from size v place p → Shows from size v place q → Same p q
 same_parts from size v place p q h k = (h.0 ∙ sym k.0, h.1.0 ∙ sym k.1.0, h.1.1 ∙ sym k.1.1)
@@ -261,18 +259,14 @@ block_asks_nothing κs a = tt
 
 pub block_determined : (κs : _) (a : _) (r r' : _) (s s' : _) → block.Post κs a r s → block.Post κs a r' s' → SameAnswer Same r r'
 block_determined κs a r r' s s' p q =
-    let x = block.post-apart κs a r s p in
-    let y = block.post-apart κs a r' s' q in
-    same_answer Same (Shows 0 512 a.0 a.1.0) (same_parts 0 512 a.0 a.1.0) r r' (x.number ∙ sym y.number) x.part y.part
+    same_answer Same (Shows 0 512 a.0 a.1.0) (same_parts 0 512 a.0 a.1.0) r r' (p.0 ∙ sym q.0) p.1 q.1
 
 pub check_asks_nothing : (κs : _) (a : _) → check.Asked κs a
 check_asks_nothing κs a = tt
 
 pub check_determined : (κs : _) (a : _) (r r' : _) (s s' : _) → check.Post κs a r s → check.Post κs a r' s' → SameAnswer Same r r'
 check_determined κs a r r' s s' p q =
-    let x = check.post-apart κs a r s p in
-    let y = check.post-apart κs a r' s' q in
-    same_answer Same (Shows 496 16 a.0 a.1.0) (same_parts 496 16 a.0 a.1.0) r r' (x.number ∙ sym y.number) x.part y.part
+    same_answer Same (Shows 496 16 a.0 a.1.0) (same_parts 496 16 a.0 a.1.0) r r' (p.0 ∙ sym q.0) p.1 q.1
 
 -- 6 exactly where the length is no multiple of 512, else a view of the image
 abbrev pub OfSays : (s : Bor (List ℕ)) (r : Result View ViewRefusal) → Type 0
@@ -280,9 +274,9 @@ OfSays s r = (length s.now % 512 ≡ 0 → IsOkAnd r (Holds s)) × ((length s.no
 
 pub of_as_told : (κs : _) (a : _) (r : _) (s : _) → of.Post κs a r s → OfSays a.0 r
 of_as_told κs a r s p =
-    let x = of.post-apart κs a r s p in (
-      (λ w. by_0 r (Holds a.0) (x.number ∙ pins.made_of_whole _ w) x.held),
-      (λ h. by_6 r (x.number ∙ pins.made_of_odd _ h)),
+    (
+      (λ w. by_0 r (Holds a.0) (p.0 ∙ pins.made_of_whole _ w) p.1),
+      (λ h. by_6 r (p.0 ∙ pins.made_of_odd _ h)),
     )
 
 -- 20 where the place is not below the number of blocks, else this part
@@ -298,13 +292,11 @@ shown_says from size v place part (Err f) n h e =
 
 pub block_as_told : (κs : _) (a : _) (r : _) (s : _) → block.Post κs a r s → ShownSays a.0 a.1.0 (take 512 (drop (a.1.0 * 512) a.0.image.now)) r
 block_as_told κs a r s p =
-    let x = block.post-apart κs a r s p in
-    shown_says 0 512 a.0 a.1.0 _ r x.number x.part (pins.block_below a.0.image.now a.1.0)
+    shown_says 0 512 a.0 a.1.0 _ r p.0 p.1 (pins.block_below a.0.image.now a.1.0)
 
 pub check_as_told : (κs : _) (a : _) (r : _) (s : _) → check.Post κs a r s → ShownSays a.0 a.1.0 (drop 496 (take 512 (drop (a.1.0 * 512) a.0.image.now))) r
 check_as_told κs a r s p =
-    let x = check.post-apart κs a r s p in
-    shown_says 496 16 a.0 a.1.0 _ r x.number x.part (λ l. pins.check_below a.0.image.now a.1.0 l ∙ ap (drop 496) (pins.block_below a.0.image.now a.1.0 l))
+    shown_says 496 16 a.0 a.1.0 _ r p.0 p.1 (λ l. pins.check_below a.0.image.now a.1.0 l ∙ ap (drop 496) (pins.block_below a.0.image.now a.1.0 l))
 
 -- ---- a view that `of` made shows the part of the lent image itself, no copy, that the numbers name
 
@@ -314,7 +306,7 @@ Named s m r a = (answer_number m ≡ a.made) × (answer_number r ≡ a.number) �
 
 pub view_is_made_as_named : (κs : _) (a : _) (m : _) (e : _) (from size place : ℕ) → of.Post κs a m e → answer_number m ≡ (answer_of from size (length a.0.now) place).made
 unfolding answer_of
-view_is_made_as_named κs a m e from size place p = (of.post-apart κs a m e p).number
+view_is_made_as_named κs a m e from size place p = p.0
 
 named : (from size : ℕ) (s : Bor (List ℕ)) (v : View) (place : ℕ) (r : Result (Bor (List ℕ)) ViewRefusal)
     → 0 ≡ made_number (length s.now) → Holds s v → answer_number r ≡ shown_number (length v.image.now) place → IfOk r (Shows from size v place)
@@ -345,13 +337,9 @@ named from size s v place r made h number shows =
 pub view_shows_the_block : (κs κs' : _) (s : Bor (List ℕ)) (place : ℕ) (v : View) (r : _) (e e' : _)
     → of.Post κs (s, tt) (Ok v) e → block.Post κs' (v, (place, tt)) r e' → Named s (Ok v) r (block_answer (length s.now) place)
 view_shows_the_block κs κs' s place v r e e' p q =
-    let m = of.post-apart κs (s, tt) (Ok v) e p in
-    let b = block.post-apart κs' (v, (place, tt)) r e' q in
-    named 0 512 s v place r m.number m.held b.number b.part
+    named 0 512 s v place r p.0 p.1 q.0 q.1
 
 pub view_shows_the_check : (κs κs' : _) (s : Bor (List ℕ)) (place : ℕ) (v : View) (r : _) (e e' : _)
     → of.Post κs (s, tt) (Ok v) e → check.Post κs' (v, (place, tt)) r e' → Named s (Ok v) r (check_answer (length s.now) place)
 view_shows_the_check κs κs' s place v r e e' p q =
-    let m = of.post-apart κs (s, tt) (Ok v) e p in
-    let b = check.post-apart κs' (v, (place, tt)) r e' q in
-    named 496 16 s v place r m.number m.held b.number b.part
+    named 496 16 s v place r p.0 p.1 q.0 q.1
