@@ -4,52 +4,37 @@
 
 ghost use Rattle.std.specs.Prelude.{◌≡◌, ◌&&◌, ◌++◌};
 ghost use Rattle.image_spec.specs.Sealed.{checks};
-ghost use Rattle.image_spec.specs.KeyPair.{usable};
-ghost use Rattle.image_spec.specs.Model.{lent_mac};
+ghost use Rattle.image_spec.specs.KeyPair.{usable, rounds_of};
+ghost use Rattle.image_spec.specs.Model.{lent_mac_of};
 
-use aes_schedule::is_round_count;
+use aes_schedule::KeySchedule;
 use cmac_run::Run;
-use image_spec::Rounds;
+use cmac_subkeys::Subkeys;
+use image_spec::KeyPair;
 use octets_block::load;
 use octets_slice::equal;
 
 // The check of the first bytes of a block and of a tail after them, without copying the two together.
-pub fn check_of(
-    cwords: &[u32; 60],
-    key1: &[u8; 16],
-    key2: &[u8; 16],
-    rounds: usize,
-    front: &[u8],
-    tail: &[u8],
-) -> [u8; 16]
-    ensures { result ≡ lent_mac cwords.now rounds key1.now key2.now (front.now ++ tail.now) }
+pub fn check_of(chk: &KeySchedule, subkeys: &Subkeys, front: &[u8], tail: &[u8]) -> [u8; 16]
+    ensures { result ≡ lent_mac_of chk.now subkeys.now (front.now ++ tail.now) }
 {
-    Run::new()
-        .fed(cwords, rounds, front)
-        .fed(cwords, rounds, tail)
-        .closed(cwords, rounds, key1, key2)
+    Run::new().fed(chk, front).fed(chk, tail).closed(chk, subkeys)
 }
 
-// Whether a block carries its check, all 16 bytes, which also covers a tail. Under a schedule that no key gave, no check is right.
-pub fn check_holds(
-    cwords: &[u32; 60],
-    key1: &[u8; 16],
-    key2: &[u8; 16],
-    rounds: Rounds,
-    tail: &[u8],
-    block: &[u8],
-) -> bool
-    ensures { result ≡ usable rounds && checks (lent_mac cwords.now rounds.chk key1.now key2.now) tail.now block.now }
+// Whether a block carries its check, all 16 bytes, which also covers a tail. Under schedules that no keys gave, no check is right.
+pub fn check_holds(keys: &KeyPair, subkeys: &Subkeys, tail: &[u8], block: &[u8]) -> bool
+    ensures { result ≡ usable (rounds_of keys.now) && checks (lent_mac_of keys.now.chk subkeys.now) tail.now block.now }
+{
+    keys.is_usable() && carries(&keys.chk, subkeys, tail, block)
+}
+
+// The same under a schedule, whatever gave it.
+fn carries(chk: &KeySchedule, subkeys: &Subkeys, tail: &[u8], block: &[u8]) -> bool
+    ensures { result ≡ checks (lent_mac_of chk.now subkeys.now) tail.now block.now }
 {
     if block.len() != 512 {
         return false;
     }
-    if !is_round_count(rounds.enc) {
-        return false;
-    }
-    if !is_round_count(rounds.chk) {
-        return false;
-    }
-    let made = check_of(cwords, key1, key2, rounds.chk, &block[0..496], tail);
-    equal(&made, &load(block, 496))
+    let made = check_of(chk, subkeys, &block[..496], tail);
+    equal(&made, &block[496..])
 }

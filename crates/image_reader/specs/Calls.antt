@@ -3,12 +3,12 @@ use Rattle.std.specs.Prelude.{cond, ℕ, List}
 use Rattle.aes_sbox.specs.Sbox.{s_box}
 use Rattle.aes_schedule.specs.Schedule.{schedule_of}
 use Rattle.aes_schedule.specs.declared.Expanded.{Expanded}
-use Rattle.aes_schedule.specs.declared.KeySchedule.{KeySchedule}
 use Rattle.aes_schedule.specs.declared.KeyAnswer.{KeyAnswer}
 use Rattle.aes_schedule.specs.declared.KeyAnswer.TheVariants.{Taken, KeyLength}
 use Rattle.image_progress.specs.Progress.{done}
 use Rattle.image_spec.specs.Judge.{Keys, BlockReader, of_both, fresh}
-use Rattle.image_spec.specs.KeyPair.{both_taken, no_schedule, keys_under}
+use Rattle.image_spec.specs.KeyPair.{both_taken, pair_keys, pair_of, no_keys}
+use Rattle.image_spec.specs.declared.KeyPair.{KeyPair}
 use Rattle.image_reader_tally.specs.declared.BlocksRead.{BlocksRead}
 use Rattle.image_reader_turn.specs.Turn.{turn_under}
 use Rattle.image_reader.specs.declared.Reader.{Reader}
@@ -19,13 +19,13 @@ use Rattle.image_progress.specs.declared.Completion.TheVariants.{Complete, NotCo
 
 -- ---- the start
 
-abbrev pub start_with : KeyAnswer → (enc chk : KeySchedule) → ReadStarted
-start_with answer enc chk = record { answer = answer; reader = record { enc = enc; chk = chk; progress = fresh } }
+abbrev pub start_with : KeyAnswer → KeyPair → ReadStarted
+start_with answer keys = record { answer = answer; reader = record { keys = keys; progress = fresh } }
 
 -- zeros where a key was refused
 abbrev pub started_by : (ekey ckey : Expanded) → ReadStarted
 started_by ekey ckey =
-    cond (both_taken ekey ckey) (start_with Taken ekey.schedule ckey.schedule) (start_with KeyLength no_schedule no_schedule)
+    cond (both_taken ekey ckey) (start_with Taken (pair_of ekey ckey)) (start_with KeyLength no_keys)
 
 unfoldable pub start_of : (ekey ckey : List ℕ) → ReadStarted
 start_of ekey ckey = started_by (schedule_of s_box ekey) (schedule_of s_box ckey)
@@ -33,7 +33,7 @@ start_of ekey ckey = started_by (schedule_of s_box ekey) (schedule_of s_box ckey
 -- ---- a turn
 
 abbrev pub keys_of : Reader → Keys
-keys_of r = keys_under r.enc.words r.chk.words (record { enc = r.enc.rounds; chk = r.chk.rounds })
+keys_of r = pair_keys r.keys
 
 -- it reads both editions
 abbrev pub blocks_by : Reader → BlockReader
@@ -42,7 +42,7 @@ blocks_by r = of_both (keys_of r)
 -- the turn over the reader's schedules (crates/image_reader_turn); the reader keeps them
 abbrev pub turn_after : Reader → BlocksRead → Turn
 turn_after r t = record {
-  reader = record { enc = r.enc; chk = r.chk; progress = t.progress };
+  reader = record { keys = r.keys; progress = t.progress };
   accepted = t.accepted;
   bytes = t.bytes;
   stop = t.stop;

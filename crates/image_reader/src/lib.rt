@@ -4,18 +4,17 @@
 ghost use Rattle.std.specs.Prelude.{◌≡◌};
 ghost use Rattle.image_reader.specs.Calls as spec;
 
-use aes_schedule::{KeyAnswer, KeySchedule, both_taken};
+use aes_schedule::KeyAnswer;
 use image_progress::{Completion, Progress};
 use image_reader_tally::Stop;
 use image_reader_turn::turn;
-use image_spec::Rounds;
+use image_spec::KeyPair;
 
 // The schedules of the encryption key and of the check key, and how far the reader has come.
 #[repr(C)]
 #[derive(Clone, Copy)]
 pub struct Reader {
-    pub enc: KeySchedule,
-    pub chk: KeySchedule,
+    pub keys: KeyPair,
     pub progress: Progress,
 }
 
@@ -39,20 +38,11 @@ pub struct Turn {
 pub fn read_start(ekey: &[u8], ckey: &[u8]) -> ReadStarted
     ensures { result ≡ spec.start_of ekey.now ckey.now }
 {
-    let made_e = KeySchedule::new(ekey);
-    let made_c = KeySchedule::new(ckey);
-    let eanswer = made_e.answer;
-    let canswer = made_c.answer;
-    let enc = made_e.schedule;
-    let chk = made_c.schedule;
-    if both_taken(eanswer, canswer) {
-        return started(KeyAnswer::Taken, enc, chk);
-    }
-    let none = KeySchedule {
-        words: [0u32; 60],
-        rounds: 0,
+    let mut keys = KeyPair::none();
+    let KeyAnswer::Taken = keys.expand(ekey, ckey) else {
+        return started(KeyAnswer::KeyLength, KeyPair::none());
     };
-    started(KeyAnswer::KeyLength, none, none)
+    started(KeyAnswer::Taken, keys)
 }
 
 // Takes the lent blocks in, as many as asked for, up to the first that is refused; the decrypted bytes of block j of the turn
@@ -60,28 +50,15 @@ pub fn read_start(ekey: &[u8], ckey: &[u8]) -> ReadStarted
 pub fn read_turn(reader: Reader, blocks: &[u8], asked: usize, output: &mut [u8]) -> Turn
     ensures { (result, output.new) ≡ spec.turn_of reader blocks.now asked output.old }
 {
-    let rounds = Rounds {
-        enc: reader.enc.rounds,
-        chk: reader.chk.rounds,
-    };
-    let done = turn(
-        &reader.enc.words,
-        &reader.chk.words,
-        rounds,
-        reader.progress,
-        blocks,
-        asked,
-        output,
-    );
-    let mut after = reader;
-    let progress = done.progress;
-    after.progress = progress;
-    let stop = done.stop;
+    let done = turn(&reader.keys, reader.progress, blocks, asked, output);
     Turn {
-        reader: after,
+        reader: Reader {
+            progress: done.progress,
+            ..reader
+        },
         accepted: done.accepted,
         bytes: done.bytes,
-        stop,
+        stop: done.stop,
     }
 }
 
@@ -90,26 +67,20 @@ pub fn read_complete(reader: Reader) -> Completion
     ensures { result ≡ spec.completion_of reader }
 {
     if image_progress::complete(reader.progress) {
-        return Completion::Complete;
+        Completion::Complete
+    } else {
+        Completion::NotComplete
     }
-    Completion::NotComplete
 }
 
-fn started(answer: KeyAnswer, enc: KeySchedule, chk: KeySchedule) -> ReadStarted
-    ensures { result ≡ spec.start_with answer enc chk }
+fn started(answer: KeyAnswer, keys: KeyPair) -> ReadStarted
+    ensures { result ≡ spec.start_with answer keys }
 {
     ReadStarted {
         answer,
         reader: Reader {
-            enc,
-            chk,
-            progress: Progress {
-                next: 0,
-                count: 0,
-                release: 0,
-                edition: 0,
-                last: [0u8; 16],
-            },
+            keys,
+            progress: Progress::start(),
         },
     }
 }

@@ -1,21 +1,24 @@
 -- From the parts of the calls to what they are to give. Assumes nothing.
-use mathlib.Core.Path.{◌≡◌, refl, sym, ap, ap₂, ◌∙◌}
+use mathlib.Core.Path.{◌≡◌, refl, sym, ap, ap₂, subst, ◌∙◌}
 use mathlib.Core.Bool.{Bool, true, false, ◌&&◌, cond}
 use mathlib.Core.List.{List, [], ◌++◌, append-nil}
-use Prim.Native.Nat.{ℕ, ◌+◌, ◌-◌}
+use Prim.Native.Nat.{ℕ, ◌+◌, ◌-◌, ◌≤◌}
 use native.Mathlib.Omega.{arith}
 use lib.ListN.{length, take, drop, replicate, length-append, length-drop, length-replicate}
 use lib.Seq.{take_all, take-length, take-append_seam, drop-append-add}
 use Rattle.octets.specs.Octets.{same}
 use Rattle.aes_sbox.specs.Sbox.{s_box}
-use Rattle.aes_schedule.specs.Schedule.{round_count, schedule_of}
-use Rattle.aes_schedule.specs.declared.Expanded.{Expanded}
+use Rattle.aes_schedule.specs.Schedule.{schedule_of}
+use Rattle.aes_schedule.specs.declared.KeyAnswer.{KeyAnswer}
+use Rattle.aes_schedule.specs.declared.KeyAnswer.TheVariants.{Taken}
 use Rattle.aes_spec.specs.Cipher.{standard}
 use Rattle.cmac_spec.specs.Cmac.{cmac}
 use Rattle.octets_slice.specs.Slices.{copied}
 use Rattle.octets_slice.proofs.Laws.{copied_fits, drop_zeros}
 use Rattle.image_spec.specs.Sealed.{Mac}
-use Rattle.image_spec.specs.KeyPair.{both_taken}
+use Rattle.image_spec.specs.KeyPair.{usable, rounds_of, pair_of, pair_answer}
+use Rattle.image_spec.specs.declared.KeyPair.{KeyPair}
+use Rattle.image_spec.proofs.Pair.{pair_taken, pair_refused}
 use Rattle.image_bookmark.specs.Bookmark.{front_of_lem}
 use Rattle.image_reader.specs.Calls.{start_of, keys_of}
 use Rattle.image_reader.specs.declared.Reader.{Reader}
@@ -26,22 +29,14 @@ use Rattle.image_reader_bookmark.specs.declared.ResumeAnswer.TheVariants.{KeyLen
 -- ---- saving
 
 module _ (r : Reader) (n : ℕ) where
-  pub save_no_enc : round_count r.enc.rounds ≡ false → replicate 56 0 ≡ save_of r n
+  pub save_none : usable (rounds_of r.keys) ≡ false → replicate 56 0 ≡ save_of r n
   unfolding save_of
-  save_no_enc e = rw e
+  save_none e = rw e
 
-  pub save_no_chk : round_count r.chk.rounds ≡ false → replicate 56 0 ≡ save_of r n
-  unfolding save_of
-  save_no_chk e = go (round_count r.enc.rounds) (bookmark_under (keys_of r).mac (front_of_lem r.progress n))
-    where
-      go : (u : Bool) (x : List ℕ) → replicate 56 0 ≡ cond (u && round_count r.chk.rounds) x (replicate 56 0)
-      go true x = rw e
-      go false x = refl
-
-  pub save_by : round_count r.enc.rounds ≡ true → round_count r.chk.rounds ≡ true → (f c b : List ℕ) → f ≡ front_of_lem r.progress n → c ≡ cmac (standard r.chk.words r.chk.rounds) f → b ≡ f ++ c
+  pub save_by : usable (rounds_of r.keys) ≡ true → (f c b : List ℕ) → f ≡ front_of_lem r.progress n → c ≡ cmac (standard r.keys.chk.words r.keys.chk.rounds) f → b ≡ f ++ c
       → b ≡ save_of r n
   unfolding save_of
-  save_by ee ec f c b ef eb e = e ∙ rw (eb, ef, ee, ec)
+  save_by u f c b ef ec e = e ∙ rw (ec, ef, u)
 
 -- a list put behind another, over zeros, of which m are left
 next_part : (n m at : ℕ) (a s : List ℕ) → length a ≡ at → length s + m ≡ n → copied s at (a ++ replicate n 0) ≡ a ++ s ++ replicate m 0
@@ -57,18 +52,26 @@ joined_by f c b1 b2 lf lc e1 e2 =
 
 -- ---- resuming
 
-pub bookmark_by : (mac : Mac) (b : List ℕ) → length b ≡ 56 → (made : List ℕ) → length made ≡ 16 → made ≡ mac (take 40 b) → same (take 16 made) (take 16 (drop 40 b)) ≡ is_bookmark mac b
-bookmark_by mac b h made l e = ap₂ same (take_all 16 made (omega arith) ∙ e) (take_all 16 (drop 40 b) (omega (arith, length-drop 40 b)))
+pub bookmark_by : (mac : Mac) (b : List ℕ) (made : List ℕ) (n : ℕ) → made ≡ mac (take 40 b) → length b ≤ 40 + n → same made (take n (drop 40 b)) ≡ is_bookmark mac b
+bookmark_by mac b made n e h = ap₂ same e (take_all n (drop 40 b) (omega (arith, length-drop 40 b, h)))
 
-module _ (ekey ckey b : List ℕ) (e c : Expanded) (enc_is : e ≡ schedule_of s_box ekey) (chk_is : c ≡ schedule_of s_box ckey) where
-  pub resume_no_key : both_taken e c ≡ false → (x : ReadResumed) → x ≡ refused_with KeyLength → x ≡ resume_of ekey ckey b
-  unfolding resume_of start_of
-  resume_no_key n x ex = ex ∙ sym (rw (← enc_is, ← chk_is, n))
+module _ (ekey ckey b : List ℕ) (a : KeyAnswer) (ea : a ≡ pair_answer (schedule_of s_box ekey) (schedule_of s_box ckey)) where
+  abbrev made : KeyPair
+  made = pair_of (schedule_of s_box ekey) (schedule_of s_box ckey)
 
-  pub resume_no_bookmark : both_taken e c ≡ true → is_bookmark (cmac (standard c.schedule.words c.schedule.rounds)) b ≡ false → (x : ReadResumed) → x ≡ refused_with NotABookmark → x ≡ resume_of ekey ckey b
+  pub resume_no_key : (a ≡ Taken → ⊥) → (x : ReadResumed) → x ≡ refused_with KeyLength → x ≡ resume_of ekey ckey b
   unfolding resume_of start_of
-  resume_no_bookmark t w x ex = ex ∙ sym (rw (← enc_is, ← chk_is, t, w))
+  resume_no_key h x ex = ex ∙ sym (rw (pair_refused (schedule_of s_box ekey) (schedule_of s_box ckey) a ea h))
 
-  pub resume_by : both_taken e c ≡ true → is_bookmark (cmac (standard c.schedule.words c.schedule.rounds)) b ≡ true → (x : ReadResumed) → x ≡ resumed_with e.schedule c.schedule b → x ≡ resume_of ekey ckey b
-  unfolding resume_of start_of
-  resume_by t w x ex = ex ∙ sym (rw (← enc_is, ← chk_is, t, w))
+  module _ (h : a ≡ Taken) (keys : KeyPair) (ek : keys ≡ made) where
+    pub resume_no_bookmark : is_bookmark (cmac (standard keys.chk.words keys.chk.rounds)) b ≡ false → (x : ReadResumed) → x ≡ refused_with NotABookmark → x ≡ resume_of ekey ckey b
+    unfolding resume_of start_of
+    resume_no_bookmark w x ex =
+        let v = subst (λ (k : KeyPair). is_bookmark (cmac (standard k.chk.words k.chk.rounds)) b ≡ false) ek w in
+        ex ∙ sym (rw (pair_taken (schedule_of s_box ekey) (schedule_of s_box ckey) a ea h, v))
+
+    pub resume_by : is_bookmark (cmac (standard keys.chk.words keys.chk.rounds)) b ≡ true → (x : ReadResumed) → x ≡ resumed_with keys b → x ≡ resume_of ekey ckey b
+    unfolding resume_of start_of
+    resume_by w x ex =
+        let v = subst (λ (k : KeyPair). is_bookmark (cmac (standard k.chk.words k.chk.rounds)) b ≡ true) ek w in
+        ex ∙ ap (λ (k : KeyPair). resumed_with k b) ek ∙ sym (rw (pair_taken (schedule_of s_box ekey) (schedule_of s_box ckey) a ea h, v))

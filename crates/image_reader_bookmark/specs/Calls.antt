@@ -2,10 +2,10 @@
 use Rattle.std.specs.Prelude.{Bool, cond, ℕ, List, ◌++◌, eqb, take, drop, replicate}
 use Rattle.octets.specs.Octets.{same}
 use Rattle.aes_schedule.specs.Schedule.{key_number}
-use Rattle.aes_schedule.specs.declared.KeySchedule.{KeySchedule}
 use Rattle.image_spec.specs.Sealed.{Mac}
 use Rattle.image_spec.specs.Judge.{fresh}
-use Rattle.image_spec.specs.KeyPair.{no_schedule}
+use Rattle.image_spec.specs.KeyPair.{no_keys}
+use Rattle.image_spec.specs.declared.KeyPair.{KeyPair}
 use Rattle.image_bookmark.specs.Bookmark.{front_of_lem, progress_in, bytes_in, check_from, bookmark_size}
 use Rattle.image_reader.specs.Calls.{start_of, keys_of}
 use Rattle.image_reader.specs.declared.Reader.{Reader}
@@ -36,15 +36,15 @@ abbrev pub is_bookmark : Mac → List ℕ → Bool
 is_bookmark mac b = same (mac (take check_from b)) (drop check_from b)
 
 -- the reader under these schedules, as far as the bookmark says
-abbrev pub resumed_with : (enc chk : KeySchedule) → List ℕ → ReadResumed
-resumed_with enc chk b = record { answer = Resumed; reader = record { enc = enc; chk = chk; progress = progress_in b }; bytes = bytes_in b }
+abbrev pub resumed_with : KeyPair → List ℕ → ReadResumed
+resumed_with keys b = record { answer = Resumed; reader = record { keys = keys; progress = progress_in b }; bytes = bytes_in b }
 
 -- the reader as it was started
 abbrev pub resumed_at : Reader → List ℕ → ReadResumed
-resumed_at r b = resumed_with r.enc r.chk b
+resumed_at r b = resumed_with r.keys b
 
 abbrev pub refused_with : ResumeAnswer → ReadResumed
-refused_with a = record { answer = a; reader = record { enc = no_schedule; chk = no_schedule; progress = fresh }; bytes = 0 }
+refused_with a = record { answer = a; reader = record { keys = no_keys; progress = fresh }; bytes = 0 }
 
 -- 1, then 25
 abbrev pub resumed_from : ReadStarted → List ℕ → ReadResumed

@@ -1,16 +1,17 @@
 // Bookmarks: how far a reader has come, kept where nothing is trusted, and the reader taken up again from there.
 #![tactic(auto)]
 
-ghost use Rattle.std.specs.Prelude.{◌≡◌, ◌++◌, length};
+ghost use Rattle.std.specs.Prelude.{◌≡◌, ◌++◌};
 ghost use Rattle.aes_spec.specs.Cipher.{standard};
 ghost use Rattle.cmac_spec.specs.Cmac.{cmac};
 ghost use Rattle.image_reader_bookmark.specs.Calls as spec;
 
-use aes_schedule::{KeySchedule, both_taken, is_round_count};
+use aes_schedule::{KeyAnswer, KeySchedule};
 use cmac::check_with;
 use image_bookmark::{bytes_in, front_of, progress_in};
 use image_progress::Progress;
 use image_reader::Reader;
+use image_spec::KeyPair;
 use octets_block::store;
 use octets_slice::{copy, equal};
 
@@ -46,14 +47,11 @@ impl ResumeAnswer {
 pub fn read_save(reader: Reader, bytes: u64) -> [u8; 56]
     ensures { result ≡ spec.save_of reader bytes }
 {
-    if !is_round_count(reader.enc.rounds) {
-        return [0u8; 56];
-    }
-    if !is_round_count(reader.chk.rounds) {
-        return [0u8; 56];
+    if !reader.keys.is_usable() {
+        return [0; 56];
     }
     let front = front_of(reader.progress, bytes);
-    let check = check_with(&reader.chk.words, reader.chk.rounds, &front);
+    let check = check_with(&reader.keys.chk, &front);
     bookmark_of(front, check)
 }
 
@@ -62,69 +60,48 @@ pub fn read_save(reader: Reader, bytes: u64) -> [u8; 56]
 pub fn read_resume(ekey: &[u8], ckey: &[u8], bookmark: [u8; 56]) -> ReadResumed
     ensures { result ≡ spec.resume_of ekey.now ckey.now bookmark }
 {
-    let made_e = KeySchedule::new(ekey);
-    let made_c = KeySchedule::new(ckey);
-    let eanswer = made_e.answer;
-    let canswer = made_c.answer;
-    let enc = made_e.schedule;
-    let chk = made_c.schedule;
-    if !both_taken(eanswer, canswer) {
+    let mut keys = KeyPair::none();
+    let KeyAnswer::Taken = keys.expand(ekey, ckey) else {
         return refused(ResumeAnswer::KeyLength);
-    }
-    if !is_bookmark(&chk.words, chk.rounds, &bookmark) {
+    };
+    if !is_bookmark(&keys.chk, &bookmark) {
         return refused(ResumeAnswer::NotABookmark);
     }
-    resumed(enc, chk, bookmark)
+    ReadResumed {
+        answer: ResumeAnswer::Resumed,
+        reader: Reader {
+            keys,
+            progress: progress_in(bookmark),
+        },
+        bytes: bytes_in(bookmark),
+    }
 }
 
 // Whether the last 16 bytes are the check of the first 40.
-fn is_bookmark(words: &[u32; 60], rounds: usize, bookmark: &[u8]) -> bool
-    requires { length bookmark.now ≡ 56 }
-    ensures { result ≡ spec.is_bookmark (cmac (standard words.now rounds)) bookmark.now }
+fn is_bookmark(chk: &KeySchedule, bookmark: &[u8; 56]) -> bool
+    ensures { result ≡ spec.is_bookmark (cmac (standard chk.now.words chk.now.rounds)) bookmark.now }
 {
-    let made = check_with(words, rounds, &bookmark[0..40]);
-    equal(&made[0..16], &bookmark[40..56])
+    let made = check_with(chk, &bookmark[..40]);
+    equal(&made, &bookmark[40..])
 }
 
 fn bookmark_of(front: [u8; 40], check: [u8; 16]) -> [u8; 56]
     ensures { result ≡ front ++ check }
 {
-    let mut bookmark = [0u8; 56];
+    let mut bookmark = [0; 56];
     copy(&front, &mut bookmark, 0);
     store(&mut bookmark, 40, check);
     bookmark
 }
 
-fn resumed(enc: KeySchedule, chk: KeySchedule, bookmark: [u8; 56]) -> ReadResumed
-    ensures { result ≡ spec.resumed_with enc chk bookmark }
-{
-    let progress = progress_in(bookmark);
-    ReadResumed {
-        answer: ResumeAnswer::Resumed,
-        reader: Reader { enc, chk, progress },
-        bytes: bytes_in(bookmark),
-    }
-}
-
 fn refused(answer: ResumeAnswer) -> ReadResumed
     ensures { result ≡ spec.refused_with answer }
 {
-    let none = KeySchedule {
-        words: [0u32; 60],
-        rounds: 0,
-    };
     ReadResumed {
         answer,
         reader: Reader {
-            enc: none,
-            chk: none,
-            progress: Progress {
-                next: 0,
-                count: 0,
-                release: 0,
-                edition: 0,
-                last: [0u8; 16],
-            },
+            keys: KeyPair::none(),
+            progress: Progress::start(),
         },
         bytes: 0,
     }

@@ -1,13 +1,12 @@
 -- What a turn has done, as the code moves it on, block by block. Nobody has to believe it: laws say what it comes to.
-use Rattle.std.specs.Prelude.{ℕ, ◌+◌, ◌%◌, Bool, true, false, List}
+use Rattle.std.specs.Prelude.{ℕ, ◌+◌, ◌%◌, List}
 use Rattle.image_layout.specs.declared.Head.{Head}
 use Rattle.image_limits.specs.Marks.{selected}
 use Rattle.image_progress.specs.declared.Progress.{Progress}
 use Rattle.image_reasons.specs.declared.Verdict.{Verdict}
 use Rattle.image_reasons.specs.declared.Verdict.TheVariants.{Accepted, Refused}
 use Rattle.image_reader_tally.specs.declared.BlocksRead.{BlocksRead}
-use Rattle.image_reader_tally.specs.declared.Stop.{Stop}
-use Rattle.image_reader_tally.specs.declared.Stop.TheVariants.{End, Asked, Lent, Room, At}
+use Rattle.image_reader_tally.specs.declared.Stop.TheVariants.{At}
 use Rattle.image_reader_tally.specs.Tally.{blocks_read_with}
 
 -- the progress after a block, were it accepted: no accepted block has the number from which the next is 0
@@ -25,11 +24,3 @@ abbrev pub stepped : Verdict → BlocksRead → Head → (check : List ℕ) → 
 stepped Accepted t h check =
     blocks_read_with (following t.progress h check) ((t.accepted + 1) % 18446744073709551616) ((t.bytes + h.len) % 18446744073709551616) t.stop
 stepped (Refused reason) t h check = blocks_read_with t.progress t.accepted t.bytes (At t.accepted reason)
-
--- nothing has stopped a turn
-abbrev pub unstopped : Stop → Bool
-unstopped End = true
-unstopped Asked = false
-unstopped Lent = false
-unstopped Room = false
-unstopped (At place reason) = false

@@ -1,5 +1,5 @@
 -- A turn over a schedule for the way back and lent subkeys is a turn over AES. Assumes nothing.
-use mathlib.Core.Path.{◌≡◌, refl, ap, ap₂, ◌∙◌}
+use mathlib.Core.Path.{◌≡◌, refl, ap₂}
 use mathlib.Core.List.{List}
 use Prim.Native.Nat.{ℕ, zero, suc, ◌*◌, ◌≤◌}
 use native.Mathlib.Omega.{arith}
@@ -7,16 +7,18 @@ use lib.ListN.{length, take, drop, length-drop}
 use Rattle.octets.specs.Octets.{Bytes, Octets}
 use Rattle.octets.proofs.Blocks.{drop_bytes, take_octets}
 use Rattle.aes_spec.specs.Cipher.{standard}
-use Rattle.aes_spec.specs.Model.{inverse_words}
-use Rattle.cmac_spec.specs.Cmac.{doubled, key1, key2}
+use Rattle.aes_spec.specs.Model.{inverse_schedule}
+use Rattle.aes_schedule.specs.declared.KeySchedule.{KeySchedule}
+use Rattle.cmac_spec.specs.Cmac.{key1, key2}
+use Rattle.cmac_subkeys.specs.declared.Subkeys.{Subkeys}
 use Rattle.image_layout.specs.Layout.{head_of_lem}
 use Rattle.image_progress.specs.declared.Progress.{Progress}
 use Rattle.image_reasons.specs.declared.Verdict.{Verdict}
 use Rattle.image_reasons.specs.declared.Verdict.TheVariants.{Accepted, Refused}
 use Rattle.image_spec.specs.Judge.{BlockReader, either, of_both, taken}
-use Rattle.image_spec.specs.KeyPair.{keys_under}
-use Rattle.image_spec.specs.Model.{lent_keys}
-use Rattle.image_spec.specs.declared.Rounds.{Rounds}
+use Rattle.image_spec.specs.KeyPair.{pair_keys}
+use Rattle.image_spec.specs.Model.{lent_of}
+use Rattle.image_spec.specs.declared.KeyPair.{KeyPair}
 use Rattle.image_spec.proofs.Agree.{verdict_same, plain_same}
 use Rattle.image_reader_turn.specs.Turn.{Reading, onward, read_blocks, cut}
 
@@ -42,14 +44,11 @@ module _ (d e : BlockReader) (verdicts : (s : Progress) (b : List ℕ) → Octet
       go (Refused reason) q ih = refl
 
 -- over the schedule for the way back and the subkeys that the call makes
-module _ (dw k1 k2 ew cw : List ℕ) (n : Rounds) (pd : dw ≡ inverse_words ew n.enc) (p1 : k1 ≡ key1 (standard cw n.chk)) (p2 : k2 ≡ doubled k1) where
-  second : k2 ≡ key2 (standard cw n.chk)
-  unfolding key2
-  second = p2 ∙ ap doubled p1
-
-  pub reading_is : (k : ℕ) (s : Progress) (bl : List ℕ) → k * 512 ≤ length bl → Bytes bl
-      → read_blocks (of_both (lent_keys ew dw cw k1 k2 n)) s (cut k bl) ≡ read_blocks (of_both (keys_under ew cw n)) s (cut k bl)
-  reading_is =
-      read_same (of_both (lent_keys ew dw cw k1 k2 n)) (of_both (keys_under ew cw n))
-      (λ s b. verdict_same ew dw cw k1 k2 n pd p1 second (either s (head_of_lem b).reserved) s b)
-      (λ s b. plain_same ew dw cw k1 k2 n pd p1 second (either s (head_of_lem b).reserved) s b)
+pub reading_is : (p : KeyPair) (dec : KeySchedule) (subkeys : Subkeys) → dec ≡ inverse_schedule p.enc
+    → subkeys.key1 ≡ key1 (standard p.chk.words p.chk.rounds) → subkeys.key2 ≡ key2 (standard p.chk.words p.chk.rounds)
+    → (k : ℕ) (s : Progress) (bl : List ℕ) → k * 512 ≤ length bl → Bytes bl
+    → read_blocks (of_both (lent_of p dec subkeys)) s (cut k bl) ≡ read_blocks (of_both (pair_keys p)) s (cut k bl)
+reading_is p dec subkeys pd p1 p2 =
+    read_same (of_both (lent_of p dec subkeys)) (of_both (pair_keys p))
+    (λ s b. verdict_same p dec subkeys pd p1 p2 (either s (head_of_lem b).reserved) s b)
+    (λ s b. plain_same p dec subkeys pd p1 p2 (either s (head_of_lem b).reserved) s b)

@@ -21,7 +21,7 @@ use Rattle.image_reasons.specs.declared.Verdict.{Verdict}
 use Rattle.image_reasons.specs.declared.Verdict.TheVariants.{Accepted, Refused}
 use Rattle.image_spec.specs.Judge.{taken, BlockReader}
 use Rattle.image_reader_tally.specs.Tally.{blocks_read_with}
-use Rattle.image_reader_tally.specs.Model.{following, stepped, unstopped}
+use Rattle.image_reader_tally.specs.Model.{following, stepped}
 use Rattle.image_reader_tally.proofs.Laws.{stepped_plain}
 use Rattle.image_reader_turn.specs.Turn.{Reading, later, onward, read_blocks, cut, blocks_read}
 use Rattle.image_reader_turn.specs.Model.{part_after}
@@ -194,33 +194,27 @@ ahead_by (At place reason) d bl n t out = (t, out)
 pub ahead : BlockReader → (bl : List ℕ) (n : ℕ) → BlocksRead → List ℕ → BlocksRead × List ℕ
 ahead d bl n t out = ahead_by t.stop d bl n t out
 
--- how many blocks it may still take, and one more
-left_by : Stop → ℕ → ℕ
-left_by End k = suc k
-left_by Asked k = 0
-left_by Lent k = 0
-left_by Room k = 0
-left_by (At place reason) k = 0
-
-pub to_go : BlocksRead → ℕ → ℕ
-to_go t n = left_by t.stop (n - t.accepted)
-
 pub ahead_start : (d : BlockReader) (bl : List ℕ) (n : ℕ) (s : Progress) (out : List ℕ) (t : BlocksRead) → t ≡ blocks_read_with s 0 0 End
     → ahead d bl n t out ≡ finish 0 0 out (read_blocks d s (cut n bl))
 unfolding ahead ahead_by
 ahead_start d bl n s out t e = rw e (ap (λ (k : ℕ). finish 0 0 out (read_blocks d s (cut k bl))) (sub-zero n))
 
-pub ahead_end : (d : BlockReader) (bl : List ℕ) (n : ℕ) (t : BlocksRead) (out : List ℕ) → (unstopped t.stop && ltb t.accepted n) ≡ false → (t, out) ≡ ahead d bl n t out
+pub ahead_end : (d : BlockReader) (bl : List ℕ) (n : ℕ) (t : BlocksRead) (out : List ℕ) → t.stop ≡ End → n ≤ t.accepted → (t, out) ≡ ahead d bl n t out
 unfolding ahead ahead_by
-ahead_end d bl n t out e = go t.stop refl e
+ahead_end d bl n t out e h =
+    ap (λ (x : Stop). (blocks_read_with t.progress t.accepted t.bytes x, out)) e ∙ rw e (left_end d bl t.progress t.accepted n t.bytes out h)
+
+-- one that something has stopped is done
+pub ahead_stopped : (d : BlockReader) (bl : List ℕ) (n : ℕ) (t : BlocksRead) (out : List ℕ) → (t.stop ≡ End → ⊥) → (t, out) ≡ ahead d bl n t out
+unfolding ahead ahead_by
+ahead_stopped d bl n t out h = go t.stop h
   where
-    go : (x : Stop) → t.stop ≡ x → (unstopped x && ltb t.accepted n) ≡ false → (t, out) ≡ ahead_by x d bl n t out
-    go End q f =
-        ap (λ (x : Stop). (blocks_read_with t.progress t.accepted t.bytes x, out)) q ∙ left_end d bl t.progress t.accepted n t.bytes out (ltb-false t.accepted n f)
-    go Asked q f = refl
-    go Lent q f = refl
-    go Room q f = refl
-    go (At place reason) q f = refl
+    go : (x : Stop) → (x ≡ End → ⊥) → (t, out) ≡ ahead_by x d bl n t out
+    go End h = absurd (h refl)
+    go Asked h = refl
+    go Lent h = refl
+    go Room h = refl
+    go (At place reason) h = refl
 
 -- what a turn that goes on has at hand: the next block is lent, its part of the output is there, and its sums are small
 pub record Ready (d : BlockReader) (bl : List ℕ) (n : ℕ) (t : BlocksRead) (out : List ℕ) : Type 0 where
@@ -271,16 +265,15 @@ module _ (d : BlockReader) (bl : List ℕ) (n : ℕ) (t : BlocksRead) (out : Lis
   step_keeps : length o ≡ length out
   step_keeps = by_verdict (λ (u : BlocksRead) (z : List ℕ). length z ≡ length out) (λ q e. part_keeps out at (d.plain b) o (part_room out at 480 given (omega arith)) (r.sized b size) e) (λ reason q. refl)
 
-  step_within : (new.accepted ≤ n) × (new.bytes ≤ new.accepted * 65535)
+  step_within : new.bytes ≤ new.accepted * 65535
   step_within =
-      by_verdict (λ (u : BlocksRead) (z : List ℕ). (u.accepted ≤ n) × (u.bytes ≤ u.accepted * 65535))
-      (λ q e. (omega (arith, r.here), omega (arith, r.within, len_fits b bytes))) (λ reason q. (omega (arith, r.here), r.within))
+      by_verdict (λ (u : BlocksRead) (z : List ℕ). u.bytes ≤ u.accepted * 65535) (λ q e. omega (arith, r.within, len_fits b bytes)) (λ reason q. r.within)
 
-  step_less : to_go new n < to_go t n
-  unfolding to_go left_by
-  step_less =
-      rw r.going
-      (by_verdict (λ (u : BlocksRead) (z : List ℕ). left_by u.stop (n - u.accepted) < suc (n - t.accepted)) (λ q e. omega (arith, r.here)) (λ reason q. omega arith))
+  -- a turn that nothing has stopped has accepted the block
+  step_on : new.stop ≡ End → new.accepted ≡ t.accepted + 1
+  step_on =
+      by_verdict (λ (u : BlocksRead) (z : List ℕ). u.stop ≡ End → u.accepted ≡ t.accepted + 1) (λ q e s. refl)
+      (λ reason q s. let y : ◌≡◌ {A = ℕ} 0 1 = cc in absurd (omega arith))
 
   step_ahead : from ≡ t.accepted * 512 → at ≡ t.accepted * 480 → ahead d bl n new o ≡ ahead d bl n t out
   unfolding ahead ahead_by
@@ -292,6 +285,6 @@ module _ (d : BlockReader) (bl : List ℕ) (n : ℕ) (t : BlocksRead) (out : Lis
       (e ∙ ap (λ (a : ℕ). take a out ++ (d.plain b ++ drop (a + 480) out)) ea))
       (λ reason q. step_refused d bl t.progress t.accepted n t.bytes out r.here b el _ refl reason q))
 
-  pub one_more : (to_go new n < to_go t n) × (new.accepted ≤ n) × (length o ≡ length out) × (new.bytes ≤ new.accepted * 65535)
+  pub one_more : (length o ≡ length out) × (new.bytes ≤ new.accepted * 65535) × (new.stop ≡ End → new.accepted ≡ t.accepted + 1)
       × (from ≡ t.accepted * 512 → at ≡ t.accepted * 480 → ahead d bl n new o ≡ ahead d bl n t out)
-  one_more = (step_less, step_within.0, step_keeps, step_within.1, step_ahead)
+  one_more = (step_keeps, step_within, step_on, step_ahead)

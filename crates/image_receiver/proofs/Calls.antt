@@ -6,9 +6,12 @@ use Prim.Native.Nat.{ℕ}
 use lib.ListN.{length}
 use Rattle.aes_sbox.specs.Sbox.{s_box}
 use Rattle.aes_schedule.specs.Schedule.{schedule_of}
-use Rattle.aes_schedule.specs.declared.Expanded.{Expanded}
+use Rattle.aes_schedule.specs.declared.KeyAnswer.{KeyAnswer}
+use Rattle.aes_schedule.specs.declared.KeyAnswer.TheVariants.{Taken}
 use Rattle.image_limits.specs.Fits.{count_fits_of}
-use Rattle.image_spec.specs.KeyPair.{both_taken}
+use Rattle.image_spec.specs.KeyPair.{both_taken, pair_of, pair_answer}
+use Rattle.image_spec.specs.declared.KeyPair.{KeyPair}
+use Rattle.image_spec.proofs.Pair.{pair_taken, pair_refused}
 use Rattle.image_receiver_map.specs.Map.{map_size, cleared}
 use Rattle.image_receiver_answer.specs.Answers.{room_for}
 use Rattle.image_receiver_answer.specs.declared.BeginAnswer.TheVariants.{Begun, BeginKey, BeginCount, BeginRoom}
@@ -20,25 +23,28 @@ use Rattle.image_receiver.specs.declared.ReceiveStarted.{ReceiveStarted}
 
 -- ---- the start
 
-module _ (ekey ckey : List ℕ) (count release : ℕ) (store map : List ℕ) (e c : Expanded) (enc_is : e ≡ schedule_of s_box ekey) (chk_is : c ≡ schedule_of s_box ckey) (x : ReceiveStarted) where
-  pub begin_key : both_taken e c ≡ false → x ≡ begun_not BeginKey → (x, map) ≡ begin_of ekey ckey count release store map
+module _ (ekey ckey : List ℕ) (count release : ℕ) (store map : List ℕ) (a : KeyAnswer) (ea : a ≡ pair_answer (schedule_of s_box ekey) (schedule_of s_box ckey)) (x : ReceiveStarted) where
+  pub begin_key : (a ≡ Taken → ⊥) → x ≡ begun_not BeginKey → (x, map) ≡ begin_of ekey ckey count release store map
   unfolding begin_of
-  begin_key b ex = rw (← enc_is, ← chk_is, b, ex)
+  begin_key h ex = rw (pair_refused (schedule_of s_box ekey) (schedule_of s_box ckey) a ea h, ex)
 
-  module _ (b : both_taken e c ≡ true) where
+  module _ (h : a ≡ Taken) where
+    taken : both_taken (schedule_of s_box ekey) (schedule_of s_box ckey) ≡ true
+    taken = pair_taken (schedule_of s_box ekey) (schedule_of s_box ckey) a ea h
+
     pub begin_count : count_fits_of count ≡ false → x ≡ begun_not (BeginCount count) → (x, map) ≡ begin_of ekey ckey count release store map
     unfolding begin_of
-    begin_count f ex = rw (← enc_is, ← chk_is, b, f, ex)
+    begin_count f ex = rw (taken, f, ex)
 
     module _ (f : count_fits_of count ≡ true) where
       pub begin_room : room_for count (length store) (length map) ≡ false → x ≡ begun_not BeginRoom → (x, map) ≡ begin_of ekey ckey count release store map
       unfolding begin_of
-      begin_room g ex = rw (← enc_is, ← chk_is, b, f, g, ex)
+      begin_room g ex = rw (taken, f, g, ex)
 
-      pub begin_done : room_for count (length store) (length map) ≡ true → x ≡ begun_with Begun e.schedule c.schedule count release
+      pub begin_done : room_for count (length store) (length map) ≡ true → (keys : KeyPair) → keys ≡ pair_of (schedule_of s_box ekey) (schedule_of s_box ckey) → x ≡ begun_with Begun keys count release
           → (m : List ℕ) (n : ℕ) → m ≡ cleared n map → n ≡ map_size count → (x, m) ≡ begin_of ekey ckey count release store map
       unfolding begin_of
-      begin_done g ex m n em en = rw (← enc_is, ← chk_is, b, f, g, ex, em, en)
+      begin_done g keys ek ex m n em en = rw (taken, f, g, ex, ek, em, en)
 
 -- ---- one block
 

@@ -3,10 +3,10 @@ use Rattle.std.specs.Prelude.{ℕ, Bool, ◌&&◌, not, cond, List, eqb, ltb, le
 use Rattle.aes_sbox.specs.Sbox.{s_box}
 use Rattle.aes_schedule.specs.Schedule.{schedule_of}
 use Rattle.aes_schedule.specs.declared.Expanded.{Expanded}
-use Rattle.aes_schedule.specs.declared.KeySchedule.{KeySchedule}
 use Rattle.image_limits.specs.Fits.{count_fits_of}
 use Rattle.image_spec.specs.Judge.{Keys}
-use Rattle.image_spec.specs.KeyPair.{both_taken, keys_under, no_schedule}
+use Rattle.image_spec.specs.KeyPair.{both_taken, pair_keys, pair_of, no_keys}
+use Rattle.image_spec.specs.declared.KeyPair.{KeyPair}
 use Rattle.image_progress.specs.declared.Completion.{Completion}
 use Rattle.image_progress.specs.declared.Completion.TheVariants.{Complete, NotComplete}
 use Rattle.image_receiver_map.specs.Map.{map_size, cleared}
@@ -23,12 +23,12 @@ use Rattle.image_receiver.specs.declared.ReceiveDone.{ReceiveDone}
 -- ---- the start
 
 -- nothing is held yet
-abbrev pub begun_with : BeginAnswer → (enc chk : KeySchedule) (count release : ℕ) → ReceiveStarted
-begun_with answer enc chk count release = record { answer = answer; receiver = record { enc = enc; chk = chk; receipt = record { count = count; release = release; held = 0; bytes = 0 } } }
+abbrev pub begun_with : BeginAnswer → KeyPair → (count release : ℕ) → ReceiveStarted
+begun_with answer keys count release = record { answer = answer; receiver = record { keys = keys; receipt = record { count = count; release = release; held = 0; bytes = 0 } } }
 
 -- zeros if it was refused
 abbrev pub begun_not : BeginAnswer → ReceiveStarted
-begun_not answer = begun_with answer no_schedule no_schedule 0 0
+begun_not answer = begun_with answer no_keys 0 0
 
 -- 1, 7, 4, in that order; then the bytes of the map that hold the count's bits are cleared, and nothing else
 abbrev pub begin_by : (ekey ckey : Expanded) (count release : ℕ) (store map : List ℕ) → ReceiveStarted × List ℕ
@@ -36,7 +36,7 @@ begin_by ekey ckey count release store map =
     cond (not (both_taken ekey ckey)) (begun_not BeginKey, map)
     (cond (not (count_fits_of count)) (begun_not (BeginCount count), map)
     (cond (not (room_for count (length store) (length map))) (begun_not BeginRoom, map)
-    (begun_with Begun ekey.schedule ckey.schedule count release, cleared (map_size count) map)))
+    (begun_with Begun (pair_of ekey ckey) count release, cleared (map_size count) map)))
 
 unfoldable pub begin_of : (ekey ckey : List ℕ) (count release : ℕ) (store map : List ℕ) → ReceiveStarted × List ℕ
 begin_of ekey ckey count release store map = begin_by (schedule_of s_box ekey) (schedule_of s_box ckey) count release store map
@@ -44,11 +44,11 @@ begin_of ekey ckey count release store map = begin_by (schedule_of s_box ekey) (
 -- ---- one block
 
 abbrev pub receiver_keys : Receiver → Keys
-receiver_keys r = keys_under r.enc.words r.chk.words (record { enc = r.enc.rounds; chk = r.chk.rounds })
+receiver_keys r = pair_keys r.keys
 
 -- the receiver keeps its schedules
 abbrev pub done_after : Receiver → BlockReceived → ReceiveDone
-done_after r d = record { answer = d.answer; receiver = record { enc = r.enc; chk = r.chk; receipt = d.receipt } }
+done_after r d = record { answer = d.answer; receiver = record { keys = r.keys; receipt = d.receipt } }
 
 abbrev pub handed : Receiver → BlockReceived × List ℕ × List ℕ → ReceiveDone × List ℕ × List ℕ
 handed r d = (done_after r d.0, d.1, d.2)

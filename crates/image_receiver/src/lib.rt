@@ -4,20 +4,19 @@
 ghost use Rattle.std.specs.Prelude.{◌≡◌};
 ghost use Rattle.image_receiver.specs.Calls as spec;
 
-use aes_schedule::{KeySchedule, both_taken};
+use aes_schedule::KeyAnswer;
 use image_limits::count_fits;
 use image_progress::Completion;
 use image_receiver_answer::{BeginAnswer, Receipt, ReceiveAnswer, has_room};
 use image_receiver_block::receive_block;
 use image_receiver_map::{clear, map_size};
-use image_spec::Rounds;
+use image_spec::KeyPair;
 
 // The schedules of the encryption key and of the check key, and what the receiver knows about its image.
 #[repr(C)]
 #[derive(Clone, Copy)]
 pub struct Receiver {
-    pub enc: KeySchedule,
-    pub chk: KeySchedule,
+    pub keys: KeyPair,
     pub receipt: Receipt,
 }
 
@@ -47,15 +46,10 @@ pub fn receive_start(
 ) -> ReceiveStarted
     ensures { (result, map.new) ≡ spec.begin_of ekey.now ckey.now count release store.now map.old }
 {
-    let made_e = KeySchedule::new(ekey);
-    let made_c = KeySchedule::new(ckey);
-    let eanswer = made_e.answer;
-    let canswer = made_c.answer;
-    let enc = made_e.schedule;
-    let chk = made_c.schedule;
-    if !both_taken(eanswer, canswer) {
+    let mut keys = KeyPair::none();
+    let KeyAnswer::Taken = keys.expand(ekey, ckey) else {
         return refused(BeginAnswer::BeginKey);
-    }
+    };
     if !count_fits(count) {
         return refused(BeginAnswer::BeginCount(count));
     }
@@ -63,7 +57,7 @@ pub fn receive_start(
         return refused(BeginAnswer::BeginRoom);
     }
     clear(map, map_size(count));
-    begun(BeginAnswer::Begun, enc, chk, count, release)
+    begun(BeginAnswer::Begun, keys, count, release)
 }
 
 // Takes a block with any number: its 480 decrypted bytes go into the store at 480 times its number, and its bit of the map is set.
@@ -71,26 +65,13 @@ pub fn receive_start(
 pub fn receive(receiver: Receiver, block: &[u8], store: &mut [u8], map: &mut [u8]) -> ReceiveDone
     ensures { (result, store.new, map.new) ≡ spec.receive_of receiver block.now store.old map.old }
 {
-    let rounds = Rounds {
-        enc: receiver.enc.rounds,
-        chk: receiver.chk.rounds,
-    };
-    let done = receive_block(
-        &receiver.enc.words,
-        &receiver.chk.words,
-        rounds,
-        receiver.receipt,
-        block,
-        store,
-        map,
-    );
-    let mut after = receiver;
-    let receipt = done.receipt;
-    after.receipt = receipt;
-    let answer = done.answer;
+    let done = receive_block(&receiver.keys, receiver.receipt, block, store, map);
     ReceiveDone {
-        answer,
-        receiver: after,
+        answer: done.answer,
+        receiver: Receiver {
+            receipt: done.receipt,
+            ..receiver
+        },
     }
 }
 
@@ -99,45 +80,33 @@ pub fn receive_complete(receiver: Receiver) -> Completion
     ensures { result ≡ spec.all_held receiver }
 {
     if holds_all(receiver.receipt) {
-        return Completion::Complete;
+        Completion::Complete
+    } else {
+        Completion::NotComplete
     }
-    Completion::NotComplete
 }
 
+#[tactic(auto, unfolding(crate::specs::Calls::full))]
 fn holds_all(receipt: Receipt) -> bool
     ensures { result ≡ spec.full receipt }
 {
-    if receipt.count == 0 {
-        return false;
-    }
-    receipt.held == receipt.count
+    0 < receipt.count && receipt.held == receipt.count
 }
 
 // What a refused start gives.
 fn refused(answer: BeginAnswer) -> ReceiveStarted
     ensures { result ≡ spec.begun_not answer }
 {
-    let none = KeySchedule {
-        words: [0u32; 60],
-        rounds: 0,
-    };
-    begun(answer, none, none, 0, 0)
+    begun(answer, KeyPair::none(), 0, 0)
 }
 
-fn begun(
-    answer: BeginAnswer,
-    enc: KeySchedule,
-    chk: KeySchedule,
-    count: u32,
-    release: u32,
-) -> ReceiveStarted
-    ensures { result ≡ spec.begun_with answer enc chk count release }
+fn begun(answer: BeginAnswer, keys: KeyPair, count: u32, release: u32) -> ReceiveStarted
+    ensures { result ≡ spec.begun_with answer keys count release }
 {
     ReceiveStarted {
         answer,
         receiver: Receiver {
-            enc,
-            chk,
+            keys,
             receipt: Receipt {
                 count,
                 release,

@@ -13,12 +13,14 @@ use Rattle.octets.proofs.Both.{and_true}
 use Rattle.aes_sbox.specs.Sbox.{s_box, inv_s_box}
 use Rattle.aes_schedule.specs.Schedule.{round_count}
 use Rattle.aes_spec.specs.Cipher.{standard}
-use Rattle.aes_spec.specs.Model.{equivalent_cipher, inverse_words}
+use Rattle.aes_spec.specs.Model.{inverse_schedule}
+use Rattle.aes_schedule.specs.declared.KeySchedule.{KeySchedule}
+use Rattle.octets.specs.Blocks.{BlockCipher}
 use Rattle.aes_spec.proofs.Aes.{aes_lawful}
 use Rattle.aes_spec.proofs.Equivalent.{Agree}
 use Rattle.image_layout.specs.Layout.{head_of_lem}
 use Rattle.image_spec.specs.Sealed.{opened, zero_after, fill_zero}
-use Rattle.image_spec.specs.Model.{filled_out, opened_over}
+use Rattle.image_spec.specs.Model.{lent_cipher, filled_out, opened_over}
 use Rattle.image_spec.proofs.Sizes.{encrypt_sized, decrypt_sized, opened_size}
 use Rattle.image_spec.proofs.Schedules.{both_ways}
 use Rattle.image_spec.proofs.Opening.{open_part}
@@ -34,28 +36,33 @@ room_parts count store map e =
     let a = and_true (leb (480 * count) store) (leb (map_size count) map) e in
     (leb-true (480 * count) store a.0, leb-true (map_size count) map a.1)
 
-module _ (ew dw : List ℕ) (n : ℕ) (pd : dw ≡ inverse_words ew n) (known : round_count n ≡ true) (b : List ℕ) (o : Octets 512 b) where
-  agree : Agree (equivalent_cipher ew dw n) (standard ew n)
-  agree = rw pd (both_ways ew n)
+module _ (enc dec : KeySchedule) (pd : dec ≡ inverse_schedule enc) (known : round_count enc.rounds ≡ true) (b : List ℕ) (o : Octets 512 b) where
+  abbrev lent : BlockCipher
+  lent = lent_cipher enc dec
 
-  pub opens_alike : opened (equivalent_cipher ew dw n) b ≡ opened (standard ew n) b
-  opens_alike = opened_same (equivalent_cipher ew dw n) (standard ew n) agree (aes_lawful ew n known) b o
+  abbrev aes : BlockCipher
+  aes = standard enc.words enc.rounds
 
-  pub fills_alike : (len : ℕ) → len ≡ (head_of_lem b).len → (r : Bool) → r ≡ filled_out (equivalent_cipher ew dw n) len b → r ≡ fill_zero (standard ew n) b
+  agree : Agree lent aes
+  agree = rw pd (both_ways enc.words enc.rounds)
+
+  pub opens_alike : opened lent b ≡ opened aes b
+  opens_alike = opened_same lent aes agree (aes_lawful enc.words enc.rounds known) b o
+
+  pub fills_alike : (len : ℕ) → len ≡ (head_of_lem b).len → (r : Bool) → r ≡ filled_out lent len b → r ≡ fill_zero aes b
   unfolding filled_out zero_after
   fills_alike len el r er = er ∙ rw (eq-eqb (length b) 512 o.size, el, opens_alike)
 
   -- the part of the store that was lent to the opening
   pub stored_by : (store : List ℕ) (at : ℕ) → at ≡ 480 * (head_of_lem b).number → at + 480 ≤ length store
-      → (part new all : List ℕ) → length part ≡ 480 → new ≡ opened_over (equivalent_cipher ew dw n) b part → all ≡ take at store ++ (new ++ drop (at + 480 - at) (drop at store))
-      → all ≡ stored (standard ew n) b store
+      → (part new all : List ℕ) → length part ≡ 480 → new ≡ opened_over lent b part → all ≡ take at store ++ (new ++ drop (at + 480 - at) (drop at store))
+      → all ≡ stored aes b store
   unfolding stored
   stored_by store at ea room part new all size en eo =
-      let c = equivalent_cipher ew dw n in
-      let es = encrypt_sized s_box ew n in
-      let ds = decrypt_sized inv_s_box dw n in
-      let p : new ≡ opened (standard ew n) b = open_part c b part o.size size es ds new en ∙ opens_alike in
-      let l : length (opened (standard ew n) b) ≡ 480 = sym (ap length opens_alike) ∙ opened_size b o.size c es ds in
+      let es = encrypt_sized s_box enc.words enc.rounds in
+      let ds = decrypt_sized inv_s_box dec.words dec.rounds in
+      let p : new ≡ opened aes b = open_part lent b part o.size size es ds new en ∙ opens_alike in
+      let l : length (opened aes b) ≡ 480 = sym (ap length opens_alike) ∙ opened_size b o.size lent es ds in
       let m : at + 480 - at ≡ 480 = omega arith in
-      let w : take 480 (opened (standard ew n) b) ≡ opened (standard ew n) b = take_all 480 (opened (standard ew n) b) (omega arith) in
-      eo ∙ rw (p, m, drop-drop 480 at store, ← ea, w) (sym (append_assoc (take at store) (opened (standard ew n) b) (drop (at + 480) store)))
+      let w : take 480 (opened aes b) ≡ opened aes b = take_all 480 (opened aes b) (omega arith) in
+      eo ∙ rw (p, m, drop-drop 480 at store, ← ea, w) (sym (append_assoc (take at store) (opened aes b) (drop (at + 480) store)))

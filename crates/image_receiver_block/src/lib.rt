@@ -1,18 +1,18 @@
 // One block received, under the schedules that are lent for it.
 #![tactic(auto)]
 
-ghost use Rattle.std.specs.Prelude.{◌≡◌, true, ◌&&◌, cond, [], ◌<◌, length};
+ghost use Rattle.std.specs.Prelude.{◌≡◌, true, ◌&&◌, [], ◌<◌, length};
 ghost use Rattle.aes_schedule.specs.Schedule.{round_count};
 ghost use Rattle.aes_spec.specs.Cipher.{standard};
-ghost use Rattle.cmac_spec.specs.Cmac.{cmac};
 ghost use Rattle.image_layout.specs.Layout.{head_of_lem};
 ghost use Rattle.image_spec.specs.Sealed.{checks};
-ghost use Rattle.image_spec.specs.KeyPair.{usable, keys_under};
-ghost use Rattle.image_receiver_answer.specs.Answers.{accepted, room_for};
-ghost use Rattle.image_receiver_answer.specs.declared.ReceiveAnswer.TheVariants.{Received};
+ghost use Rattle.image_spec.specs.KeyPair.{pair_keys};
+ghost use Rattle.image_receiver_answer.specs.Answers.{room_for};
 ghost use Rattle.image_receiver_block.specs.Receive as spec;
 
-use aes_schedule_inverse::inverse_words;
+use aes_schedule::KeySchedule;
+use aes_schedule_inverse::inverse_into;
+use cmac_subkeys::Subkeys;
 use image_block_check::check_holds;
 use image_block_fill::fill_is_zero;
 use image_block_open::open_block;
@@ -20,7 +20,7 @@ use image_layout::{Head, head_of};
 use image_reasons::Reason;
 use image_receiver_answer::{Receipt, ReceiveAnswer, has_room, judge_header};
 use image_receiver_map::{has_bit, set_bit};
-use image_spec::Rounds;
+use image_spec::KeyPair;
 use octets_block::load;
 
 // The answer to a block, and what the receiver knows after it.
@@ -31,17 +31,14 @@ pub struct BlockReceived {
 }
 
 // Takes a block: its 480 decrypted bytes go into the store at 480 times its number, and its bit is set. A refused one changes nothing.
-// One lifetime for both schedules lets a caller lend them out of one receiver.
-pub fn receive_block<'a>(
-    ewords: &'a [u32; 60],
-    cwords: &'a [u32; 60],
-    rounds: Rounds,
+pub fn receive_block(
+    keys: &KeyPair,
     receipt: Receipt,
     block: &[u8],
     store: &mut [u8],
     map: &mut [u8],
 ) -> BlockReceived
-    ensures { (result, store.new, map.new) ≡ spec.received_under (keys_under ewords.now cwords.now rounds) receipt block.now store.old map.old }
+    ensures { (result, store.new, map.new) ≡ spec.received_under (pair_keys keys.now) receipt block.now store.old map.old }
 {
     if block.len() != 512 {
         return answered(ReceiveAnswer::NotABlock, receipt);
@@ -49,7 +46,7 @@ pub fn receive_block<'a>(
     if !has_room(receipt.count, store.len(), map.len()) {
         return answered(ReceiveAnswer::NoRoom, receipt);
     }
-    if !checked(cwords, rounds, block) {
+    if !checked(keys, block) {
         return answered(ReceiveAnswer::Because(Reason::CheckWrong), receipt);
     }
     let head = head_of(load(block, 0));
@@ -57,7 +54,7 @@ pub fn receive_block<'a>(
     let ReceiveAnswer::Received = told else {
         return answered(told, receipt);
     };
-    keep(ewords, rounds.enc, receipt, head, block, store, map)
+    keep(&keys.enc, receipt, head, block, store, map)
 }
 
 fn answered(answer: ReceiveAnswer, receipt: Receipt) -> BlockReceived
@@ -67,82 +64,47 @@ fn answered(answer: ReceiveAnswer, receipt: Receipt) -> BlockReceived
 }
 
 // Whether a block carries its check, which covers bytes 0 to 495 and nothing else.
-fn checked(cwords: &[u32; 60], rounds: Rounds, block: &[u8]) -> bool
-    ensures { result ≡ usable rounds && checks (cmac (standard cwords.now rounds.chk)) [] block.now }
+fn checked(keys: &KeyPair, block: &[u8]) -> bool
+    ensures { result ≡ (pair_keys keys.now).usable && checks (pair_keys keys.now).mac [] block.now }
 {
-    let key1 = cmac_subkeys::key1(cwords, rounds.chk);
-    let key2 = cmac_subkeys::key2(key1);
-    check_holds(cwords, &key1, &key2, rounds, &block[0..0], block)
+    let subkeys = Subkeys::new(&keys.chk);
+    check_holds(keys, &subkeys, &[], block)
 }
 
 // The last two tests of a block with a right check and header, 15 and 21; it is kept if it passes both.
 fn keep(
-    ewords: &[u32; 60],
-    rounds: usize,
+    enc: &KeySchedule,
     receipt: Receipt,
     head: Head,
     block: &[u8],
     store: &mut [u8],
     map: &mut [u8],
 ) -> BlockReceived
-    requires { (length block.now ≡ 512) × (head ≡ head_of_lem block.now) × (head.number < receipt.count) × (room_for receipt.count (length store.old) (length map.old) ≡ true) × (round_count rounds ≡ true) }
-    ensures { (result, store.new, map.new) ≡ spec.leaves (spec.last_answer (standard ewords.now rounds) block.now map.old) (standard ewords.now rounds) receipt block.now store.old map.old }
+    requires { (length block.now ≡ 512) × (head ≡ head_of_lem block.now) × (head.number < receipt.count) × (room_for receipt.count (length store.old) (length map.old) ≡ true) × (round_count enc.now.rounds ≡ true) }
+    ensures { (result, store.new, map.new) ≡ spec.leaves (spec.last_answer (standard enc.now.words enc.now.rounds) block.now map.old) (standard enc.now.words enc.now.rounds) receipt block.now store.old map.old }
 {
-    let mut dwords = [0u32; 60];
-    inverse_words(ewords, rounds, &mut dwords);
-    let number = head.number as usize;
-    let len = head.len;
-    let filled = fill_is_zero(ewords, &dwords, rounds, block, len as usize);
-    let held = has_bit(map, number);
-    let fifteen = unless(filled, ReceiveAnswer::Because(Reason::FillNotZero));
-    let twenty_one = unless(!held, ReceiveAnswer::AlreadyHeld);
-    let answer = sooner(fifteen, twenty_one);
-    let ReceiveAnswer::Received = answer else {
-        return answered(answer, receipt);
-    };
-    let at = number * 480;
-    open_block(ewords, &dwords, rounds, block, &mut store[at..at + 480]);
-    set_bit(map, number);
-    answered(answer, counted(receipt, len))
-}
-
-// The answer of a test: `Received` if it holds, and its refusal if not.
-fn unless(holds: bool, answer: ReceiveAnswer) -> ReceiveAnswer
-    ensures { result ≡ cond holds Received answer }
-{
-    if holds {
-        return ReceiveAnswer::Received;
+    let mut dec = KeySchedule::none();
+    inverse_into(enc, &mut dec);
+    if !fill_is_zero(enc, &dec, block, head.len as usize) {
+        return answered(ReceiveAnswer::Because(Reason::FillNotZero), receipt);
     }
-    answer
+    let number = head.number as usize;
+    if has_bit(map, number) {
+        return answered(ReceiveAnswer::AlreadyHeld, receipt);
+    }
+    let at = number * 480;
+    open_block(enc, &dec, block, &mut store[at..at + 480]);
+    set_bit(map, number);
+    answered(ReceiveAnswer::Received, counted(receipt, head.len))
 }
 
-// The first answer or, if that accepts, the second.
-fn sooner(first: ReceiveAnswer, second: ReceiveAnswer) -> ReceiveAnswer
-    ensures { result ≡ cond (accepted first) second first }
-{
-    let ReceiveAnswer::Received = first else {
-        return first;
-    };
-    second
-}
-
-// One more block is held, and its payload is counted. A sum that 32 bits cannot hold stays at the largest.
+// One block more is held, and its payload is counted. A sum that 32 bits cannot hold stays at the largest.
 fn counted(receipt: Receipt, len: u16) -> Receipt
     ensures { result ≡ spec.counted_with receipt len }
 {
     Receipt {
-        count: receipt.count,
-        release: receipt.release,
-        held: sum(receipt.held, 1),
-        bytes: sum(receipt.bytes, len),
+        held: receipt.held.saturating_add(1),
+        bytes: receipt.bytes.saturating_add(len as u32),
+        ..receipt
     }
-}
-
-fn sum(a: u32, b: u16) -> u32
-    ensures { result ≡ spec.capped a b }
-{
-    if a > 4294967295 - b as u32 {
-        return 4294967295;
-    }
-    a + b as u32
 }

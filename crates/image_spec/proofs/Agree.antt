@@ -14,7 +14,8 @@ use Rattle.octets.proofs.Blocks.{drop_bytes, take_octets}
 use Rattle.aes_schedule.specs.Schedule.{round_count}
 use Rattle.aes_spec.proofs.Aes.{aes_lawful}
 use Rattle.aes_spec.specs.Cipher.{standard}
-use Rattle.aes_spec.specs.Model.{inverse_words}
+use Rattle.aes_spec.specs.Model.{inverse_words, inverse_schedule}
+use Rattle.aes_schedule.specs.declared.KeySchedule.{KeySchedule}
 use Rattle.aes_spec.proofs.Equivalent.{Agree}
 use Rattle.modes_spec.specs.Modes.{moded}
 use Rattle.modes_spec.specs.declared.Operation.TheVariants.{CbcDecrypt}
@@ -31,9 +32,10 @@ use Rattle.image_reasons.proofs.Order.{all_false}
 use Rattle.image_spec.specs.Edition.{Edition}
 use Rattle.image_spec.specs.Sealed.{front, sealed, opened, checks, zero_after}
 use Rattle.image_spec.specs.Judge.{Keys, tests, judge}
-use Rattle.image_spec.specs.KeyPair.{usable}
-use Rattle.image_spec.specs.Model.{lent_mac, lent_keys}
-use Rattle.image_spec.specs.declared.Rounds.{Rounds}
+use Rattle.image_spec.specs.KeyPair.{usable, rounds_of, pair_keys}
+use Rattle.image_spec.specs.Model.{lent_mac, lent_keys, lent_of}
+use Rattle.image_spec.specs.declared.KeyPair.{KeyPair}
+use Rattle.cmac_subkeys.specs.declared.Subkeys.{Subkeys}
 use Rattle.image_spec.proofs.Schedules.{both_ways}
 
 -- ---- one block, over ciphers that agree
@@ -65,35 +67,44 @@ module _ (w : List ℕ) (nr : ℕ) (k1 k2 : List ℕ) (p1 : k1 ≡ key1 (standar
 
 -- ---- a reader's keys
 
-module _ (ew dw cw k1 k2 : List ℕ) (n : Rounds) (pd : dw ≡ inverse_words ew n.enc) (p1 : k1 ≡ key1 (standard cw n.chk)) (p2 : k2 ≡ key2 (standard cw n.chk)) (ed : Edition) (s : Progress) (b : List ℕ) (o : Octets 512 b) where
+-- with the inverse schedule of the pair's own, the two ways are those over its words
+pub lent_words : (p : KeyPair) (subkeys : Subkeys)
+    → lent_of p (inverse_schedule p.enc) subkeys ≡ lent_keys p.enc.words (inverse_words p.enc.words p.enc.rounds) p.chk.words subkeys.key1 subkeys.key2 (rounds_of p)
+lent_words p subkeys = refl
+
+module _ (p : KeyPair) (dec : KeySchedule) (subkeys : Subkeys) (pd : dec ≡ inverse_schedule p.enc)
+    (p1 : subkeys.key1 ≡ key1 (standard p.chk.words p.chk.rounds)) (p2 : subkeys.key2 ≡ key2 (standard p.chk.words p.chk.rounds)) (ed : Edition) (s : Progress) (b : List ℕ) (o : Octets 512 b) where
   abbrev keys : Keys
-  keys = lent_keys ew dw cw k1 k2 n
+  keys = lent_of p dec subkeys
 
   abbrev standard_keys : Keys
-  standard_keys = record { enc = standard ew n.enc; mac = cmac (standard cw n.chk); usable = usable n }
+  standard_keys = pair_keys p
 
-  known : usable n ≡ true → (round_count n.enc ≡ true) × (round_count n.chk ≡ true)
-  known = and_true (round_count n.enc) (round_count n.chk)
+  abbrev known_rounds : Bool
+  known_rounds = usable (rounds_of p)
+
+  known : known_rounds ≡ true → (round_count p.enc.rounds ≡ true) × (round_count p.chk.rounds ≡ true)
+  known = and_true (round_count p.enc.rounds) (round_count p.chk.rounds)
 
   both_agree : Agree keys.enc standard_keys.enc
-  both_agree = rw pd (both_ways ew n.enc)
+  both_agree = rw pd (both_ways p.enc.words p.enc.rounds)
 
   -- both refuse every block where no keys gave the schedules
   refused : (k : Keys) → k.usable ≡ false → judge k ed s b ≡ cond (closed s) (Refused AfterLast) (Refused CheckWrong)
   unfolding judge first_of
   refused k e = rw e
 
-  open_same : usable n ≡ true → opened keys.enc b ≡ opened standard_keys.enc b
-  open_same e = opened_same keys.enc standard_keys.enc both_agree (aes_lawful ew n.enc (known e).0) b o
+  open_same : known_rounds ≡ true → opened keys.enc b ≡ opened standard_keys.enc b
+  open_same e = opened_same keys.enc standard_keys.enc both_agree (aes_lawful p.enc.words p.enc.rounds (known e).0) b o
 
   pub verdict_same : judge keys ed s b ≡ judge standard_keys ed s b
   unfolding judge zero_after
-  verdict_same = go (usable n) refl
+  verdict_same = go known_rounds refl
     where
-      go : (u : Bool) → usable n ≡ u → judge keys ed s b ≡ judge standard_keys ed s b
-      go true e = rw (checks_same cw n.chk k1 k2 p1 p2 (ed.tail s.last) b, open_same e)
+      go : (u : Bool) → known_rounds ≡ u → judge keys ed s b ≡ judge standard_keys ed s b
+      go true e = rw (checks_same p.chk.words p.chk.rounds subkeys.key1 subkeys.key2 p1 p2 (ed.tail s.last) b, open_same e)
       go false e = refused keys e ∙ sym (refused standard_keys e)
 
   pub plain_same : judge standard_keys ed s b ≡ Accepted → opened keys.enc b ≡ opened standard_keys.enc b
   unfolding judge
-  plain_same e = open_same (and_true (usable n) (checks standard_keys.mac (ed.tail s.last) b) (not-false _ (all_false (tests standard_keys ed s b) e).1.0)).0
+  plain_same e = open_same (and_true known_rounds (checks standard_keys.mac (ed.tail s.last) b) (not-false _ (all_false (tests standard_keys ed s b) e).1.0)).0

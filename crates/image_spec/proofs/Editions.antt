@@ -2,8 +2,7 @@
 use mathlib.Core.Path.{◌≡◌, refl, ap, ◌∙◌}
 use mathlib.Core.Bool.{Bool, true, false, cond}
 use mathlib.Core.List.{List, []}
-use Prim.Native.Nat.{ℕ, ◌-◌, ◌≤◌}
-use native.Mathlib.Nat.{sub-zero}
+use Prim.Native.Nat.{ℕ, ◌≤◌}
 use native.Mathlib.Omega.{arith}
 use lib.Dec.{eqb}
 use lib.ListN.{length, take}
@@ -30,8 +29,8 @@ tail_taken n last l = go (eqb n 2)
     go false = refl
 
 -- where they are lent as a part of it
-pub tail_part : (n x : ℕ) (last : List ℕ) → length last ≡ 16 → x ≡ tail_size n → take (x - 0) last ≡ tail_of n last
-tail_part n x last l e = ap (λ (k : ℕ). take k last) (sub-zero x ∙ e) ∙ tail_taken n last l
+pub tail_part : (n x : ℕ) (last : List ℕ) → length last ≡ 16 → x ≡ tail_size n → take x last ≡ tail_of n last
+tail_part n x last l e = ap (λ (k : ℕ). take k last) e ∙ tail_taken n last l
 
 pub tail_size_most : (n : ℕ) → tail_size n ≤ 16
 unfolding tail_size

@@ -2,7 +2,7 @@
 use mathlib.Core.Path.{◌≡◌, refl, sym, ap, ap₂, ◌∙◌}
 use mathlib.Core.Bool.{Bool, true, false, ◌&&◌, not}
 use mathlib.Core.List.{List, [], ◌∷◌, ◌++◌}
-use Prim.Native.Nat.{ℕ, ◌<◌}
+use Prim.Native.Nat.{ℕ, ◌+◌, ◌<◌, ◌≤◌}
 use native.Mathlib.Omega.{arith}
 use borrow.Author.Tests.{eqb-true, eqb-false, eq-eqb, leb-true, not-false}
 use lib.Dec.{eqb, ltb, leb}
@@ -10,9 +10,7 @@ use lib.ListN.{length, take, drop, length-drop}
 use lib.Seq.{take_all}
 use Rattle.octets.proofs.Both.{and_true}
 use Rattle.octets.specs.Octets.{same}
-use Rattle.octets_block.specs.Blocks.{block_at}
 use Rattle.octets_block.proofs.Laws.{block-at}
-use Rattle.aes_schedule.specs.Schedule.{round_count}
 use Rattle.image_layout.specs.Layout.{head_of_lem}
 use Rattle.image_limits.specs.Fits.{count_fits_of}
 use Rattle.image_limits.specs.Marks.{selected}
@@ -30,9 +28,7 @@ use Rattle.image_rules.proofs.Laws.{number_below}
 use Rattle.image_spec.specs.Edition.{Edition, tail_of}
 use Rattle.image_spec.specs.Sealed.{Mac, checks, zero_after, fill_zero}
 use Rattle.image_spec.specs.Judge.{Keys, tests, judge, either, of_both}
-use Rattle.image_spec.specs.KeyPair.{usable}
 use Rattle.image_spec.specs.Model.{filled_out, head_read_of, judged}
-use Rattle.image_spec.specs.declared.Rounds.{Rounds}
 use Rattle.image_spec.specs.declared.Judged.{Judged}
 use Rattle.image_progress.specs.declared.Progress.{Progress}
 use Rattle.image_spec.proofs.Sizes.{Sixteen, checks_block}
@@ -41,27 +37,12 @@ pub flip : (t : Bool) {u : Bool} → not t ≡ u → t ≡ not u
 flip true e = ap not e
 flip false e = ap not e
 
--- ---- the rounds of both schedules
-
-pub unusable_enc : (n : Rounds) (t : Bool) → round_count n.enc ≡ false → false ≡ (usable n && t)
-unusable_enc n t e = rw e
-
-pub unusable_chk : (n : Rounds) (t : Bool) → round_count n.chk ≡ false → false ≡ (usable n && t)
-unusable_chk n t e = go (round_count n.enc)
-  where
-    go : (u : Bool) → false ≡ ((u && round_count n.chk) && t)
-    go true = rw e
-    go false = refl
-
-pub usable_both : (n : Rounds) (t : Bool) → round_count n.enc ≡ true → round_count n.chk ≡ true → t ≡ (usable n && t)
-usable_both n t e f = rw (e, f)
-
 -- ---- the check
 
 module _ (c : Mac) (tail b : List ℕ) where
-  pub checks_by : length b ≡ 512 → (made found : List ℕ) → made ≡ c (take 496 b ++ tail) → found ≡ block_at b 496 → same made found ≡ checks c tail b
+  pub checks_by : (made : List ℕ) (n : ℕ) → made ≡ c (take 496 b ++ tail) → length b ≤ 496 + n → same made (take n (drop 496 b)) ≡ checks c tail b
   unfolding checks
-  checks_by size made found em ef = ap₂ same em (ef ∙ block-at b 496 (omega arith) ∙ take_all 16 (drop 496 b) (omega (arith, length-drop 496 b)))
+  checks_by made n em room = ap₂ same em (take_all n (drop 496 b) (omega (arith, length-drop 496 b, room)))
 
   -- no check is right but a block's
   pub checks_none : Sixteen c → (length b ≡ 512 → ⊥) → (u : Bool) → false ≡ (u && checks c tail b)

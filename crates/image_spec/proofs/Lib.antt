@@ -1,4 +1,5 @@
 pub mod Editions
+pub mod Pair
 pub mod Sizes
 pub mod Schedules
 pub mod Opening

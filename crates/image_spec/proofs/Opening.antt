@@ -1,14 +1,13 @@
 -- The decrypted bytes of a block: written over the front of an output, and zero from a place on, piece by piece. Assumes nothing.
 use mathlib.Core.Path.{◌≡◌, refl, sym, ap, ap₂, ◌∙◌}
-use mathlib.Core.Bool.{Bool, true, false, ◌&&◌, not}
+use mathlib.Core.Bool.{Bool, true, false, ◌&&◌}
 use mathlib.Core.List.{List, [], ◌∷◌, ◌++◌, append-nil}
-use Prim.Native.Nat.{ℕ, zero, suc, ◌+◌, ◌-◌, ◌*◌, ◌/◌, ◌%◌, ◌≤◌, ◌<◌, max}
+use Prim.Native.Nat.{ℕ, zero, suc, ◌+◌, ◌-◌, ◌*◌, ◌/◌, ◌%◌, ◌≤◌, ◌<◌}
 use native.Mathlib.Omega.{arith}
-use borrow.Author.Tests.{eq-eqb, ne_eqb, le-leb, lt-leb, leb-true, leb-false, not-true, not-false}
-use lib.Dec.{eqb, leb}
-use lib.ListN.{length, get_or, take, drop, length-drop, drop_of_length-le}
-use lib.Seq.{take-add, take-take, drop_at, drop-cons, drop-drop, drop-append-le, length-take-le}
-use Rattle.octets.proofs.Both.{and_true}
+use borrow.Author.Tests.{eq-eqb, ne_eqb, le-leb, lt-leb}
+use lib.Dec.{eqb}
+use lib.ListN.{length, take, drop, length-drop, drop_of_length-le}
+use lib.Seq.{take-add, take-take, drop_at, drop-drop, drop-append-le, length-take-le}
 use Rattle.octets.specs.Blocks.{◌⊕◌, BlockCipher}
 use Rattle.octets_block.specs.Blocks.{block_at}
 use Rattle.octets_block.proofs.Laws.{block-at}
@@ -22,38 +21,10 @@ use Rattle.image_spec.specs.Sealed.{opened, all_zero, zero_after}
 use Rattle.image_spec.specs.Model.{filled_out, opened_over}
 use Rattle.image_spec.proofs.Sizes.{Sixteen, made_size, body_length, opened_made, opened_size}
 
--- ---- zeros from a place on, and from the place i on that was reached
+-- ---- zeros from a place on
 
 zero_end : (s : List ℕ) (i : ℕ) → length s ≤ i → true ≡ all_zero (drop i s)
 zero_end s i h = rw (drop_of_length-le s {i = i} h)
-
-module _ (s : List ℕ) (from : ℕ) where
-  pub reached_none : all_zero (drop (max from 0) s) ≡ all_zero (drop from s)
-  reached_none = let e : max from 0 ≡ from = omega arith in ap (λ (k : ℕ). all_zero (drop k s)) e
-
-  pub reached_end : (i : ℕ) → length s ≤ i → true ≡ all_zero (drop (max from i) s)
-  reached_end i h = zero_end s (max from i) (omega arith)
-
-  module _ (i : ℕ) (h : i < length s) where
-    here : from ≤ i → all_zero (drop (max from i) s) ≡ (eqb (get_or s i 0) 0 && all_zero (drop (suc i) s))
-    here l = let e : max from i ≡ i = omega arith in rw (e, drop-cons s i 0 h)
-
-    -- whether the byte there is one that is to be zero and is not
-    pub reached_not : (leb from i && not (eqb (get_or s i 0) 0)) ≡ true → false ≡ all_zero (drop (max from i) s)
-    reached_not e = let a = and_true (leb from i) (not (eqb (get_or s i 0) 0)) e in rw (here (leb-true from i a.0), not-true (eqb (get_or s i 0) 0) a.1)
-
-    pub reached_more : (leb from i && not (eqb (get_or s i 0) 0)) ≡ false → all_zero (drop (max from (i + 1)) s) ≡ all_zero (drop (max from i) s)
-    reached_more e = go (leb from i) refl e
-      where
-        go : (t : Bool) → leb from i ≡ t → (t && not (eqb (get_or s i 0) 0)) ≡ false → all_zero (drop (max from (i + 1)) s) ≡ all_zero (drop (max from i) s)
-        go true l q =
-            let m = leb-true from i l in
-            let n : max from (i + 1) ≡ suc i = omega arith in
-            ap (λ (k : ℕ). all_zero (drop k s)) n ∙ sym (here m ∙ ap (λ (t : Bool). t && all_zero (drop (suc i) s)) (not-false (eqb (get_or s i 0) 0) q))
-        go false l q =
-            let m = leb-false from i l in
-            let n : max from (i + 1) ≡ max from i = omega arith in
-            ap (λ (k : ℕ). all_zero (drop k s)) n
 
 zero_append : (a b : List ℕ) → all_zero (a ++ b) ≡ (all_zero a && all_zero b)
 zero_append [] b = refl

@@ -12,13 +12,16 @@ use Rattle.octets.specs.Octets.{Bytes, over}
 use Rattle.octets.proofs.Blocks.{zeros_bytes}
 use Rattle.aes_sbox.specs.Sbox.{s_box}
 use Rattle.aes_schedule.specs.Schedule.{schedule_of}
-use Rattle.aes_schedule.specs.declared.Expanded.{Expanded}
+use Rattle.aes_schedule.specs.declared.KeyAnswer.{KeyAnswer}
+use Rattle.aes_schedule.specs.declared.KeyAnswer.TheVariants.{Taken}
 use Rattle.aes_spec.specs.Cipher.{standard}
 use Rattle.image_limits.specs.Marks.{is_edition, mark_of}
 use Rattle.image_limits.specs.Fits.{count_fits_of, length_fits}
 use Rattle.image_spec.specs.Edition.{no_check, tail_of, edition}
 use Rattle.image_spec.specs.Sealed.{head_for}
-use Rattle.image_spec.specs.KeyPair.{both_taken}
+use Rattle.image_spec.specs.KeyPair.{both_taken, pair_of, pair_answer}
+use Rattle.image_spec.specs.declared.KeyPair.{KeyPair}
+use Rattle.image_spec.proofs.Pair.{pair_taken, pair_refused}
 use Rattle.image_spec.specs.Model.{sealed_over}
 use Rattle.image_spec.proofs.Agree.{sealed_same}
 use Rattle.image_writer_answer.specs.Answers.{write_ruled, last_for}
@@ -58,15 +61,23 @@ mark_small n e = go (eqb n 1) (eqb n 2) e
 
 -- ---- both keys
 
-module _ (ekey ckey : List ℕ) (e c : Expanded) (enc_is : e ≡ schedule_of s_box ekey) (chk_is : c ≡ schedule_of s_box ckey)
-    (n : Numbers) (payload out : List ℕ) (a : WriteAnswer) (pa : a ≡ write_ruled (both_taken e c) n (length payload) (length out)) where
+-- whether both were taken, by the answer for the pair
+module _ (ekey ckey : List ℕ) (r : KeyAnswer) (er : r ≡ pair_answer (schedule_of s_box ekey) (schedule_of s_box ckey)) (t : Bool) where
+  pub flag_taken : r ≡ Taken → t ≡ true → t ≡ both_taken (schedule_of s_box ekey) (schedule_of s_box ckey)
+  flag_taken h e = e ∙ sym (pair_taken (schedule_of s_box ekey) (schedule_of s_box ckey) r er h)
+
+  pub flag_refused : (r ≡ Taken → ⊥) → t ≡ false → t ≡ both_taken (schedule_of s_box ekey) (schedule_of s_box ckey)
+  flag_refused h e = e ∙ sym (pair_refused (schedule_of s_box ekey) (schedule_of s_box ckey) r er h)
+
+module _ (ekey ckey : List ℕ) (t : Bool) (et : t ≡ both_taken (schedule_of s_box ekey) (schedule_of s_box ckey))
+    (n : Numbers) (payload out : List ℕ) (a : WriteAnswer) (pa : a ≡ write_ruled t n (length payload) (length out)) where
   pub write_answered : a ≡ write_answer ekey ckey n payload out
   unfolding write_answer
-  write_answered = pa ∙ ap₂ (λ (x y : Expanded). write_ruled (both_taken x y) n (length payload) (length out)) enc_is chk_is
+  write_answered = pa ∙ ap (λ (x : Bool). write_ruled x n (length payload) (length out)) et
 
   -- what the tests of a block that is written have shown
   record Passed : Type 0 where
-    keys : both_taken e c ≡ true
+    keys : t ≡ true
     len : length payload ≤ 480
     known : is_edition n.edition ≡ true
     room : 512 ≤ length out
@@ -74,13 +85,13 @@ module _ (ekey ckey : List ℕ) (e c : Expanded) (enc_is : e ≡ schedule_of s_b
   passed : a ≡ Written → Passed
   unfolding write_ruled length_fits
   passed q =
-      go (both_taken e c) refl (count_fits_of n.count) (ltb n.number n.count) (length_fits n.number n.count (length payload)) refl (is_edition n.edition) refl (ltb (length out) 512) refl (sym pa ∙ q)
+      go t refl (count_fits_of n.count) (ltb n.number n.count) (length_fits n.number n.count (length payload)) refl (is_edition n.edition) refl (ltb (length out) 512) refl (sym pa ∙ q)
     where
       least : (t u v : Bool) → cond t (leb (length payload) 480 && u) v ≡ true → (v ≡ true → length payload ≤ 480) → length payload ≤ 480
       least true u v f g = leb-true (length payload) 480 (and_true (leb (length payload) 480) u f).0
       least false u v f g = g f
 
-      go : (k : Bool) → both_taken e c ≡ k → (m b l : Bool) → length_fits n.number n.count (length payload) ≡ l → (i : Bool) → is_edition n.edition ≡ i → (o : Bool) → ltb (length out) 512 ≡ o
+      go : (k : Bool) → t ≡ k → (m b l : Bool) → length_fits n.number n.count (length payload) ≡ l → (i : Bool) → is_edition n.edition ≡ i → (o : Bool) → ltb (length out) 512 ≡ o
           → cond (not k) WriteKey (cond (not m) WriteCount (cond (not b) WriteNumber (cond (not l) WriteLength (cond (not i) WriteEdition (cond o WriteRoom Written))))) ≡ Written → Passed
       go true ek true true true el true ei false eo f = record {
         keys = ek;
@@ -98,15 +109,15 @@ module _ (ekey ckey : List ℕ) (e c : Expanded) (enc_is : e ≡ schedule_of s_b
   pub write_fits : a ≡ Written → (length payload ≤ 480) × (is_edition n.edition ≡ true)
   write_fits q = ((passed q).len, (passed q).known)
 
-  pub written_by : (previous o : List ℕ) → a ≡ Written
-      → o ≡ sealed_under e.schedule.words c.schedule.words (record { enc = e.schedule.rounds; chk = c.schedule.rounds }) (tail_of n.edition (last_for n.number previous)) (head_for (edition n.edition) n.number n.count n.release (length payload)) payload out
+  pub written_by : (keys : KeyPair) → keys ≡ pair_of (schedule_of s_box ekey) (schedule_of s_box ckey) → (previous o : List ℕ) → a ≡ Written
+      → o ≡ sealed_under keys (tail_of n.edition (last_for n.number previous)) (head_for (edition n.edition) n.number n.count n.release (length payload)) payload out
       → o ≡ write_output a ekey ckey n previous payload out
   unfolding sealed_over
-  written_by previous o q po =
+  written_by keys ek previous o q po =
       let f = passed q in
       let x = (schedule_of s_box ekey).schedule in
       let y = (schedule_of s_box ckey).schedule in
-      po ∙ rw (le-leb (length payload) 480 f.len, le-leb 512 (length out) f.room, q, enc_is, chk_is)
+      po ∙ rw (le-leb (length payload) 480 f.len, le-leb 512 (length out) f.room, q, ek)
       (ap (λ (b : List ℕ). over b out)
       (sealed_same y.words y.rounds _ _ refl refl (standard x.words x.rounds) (tail_of n.edition (last_for n.number previous))
       (head_for (edition n.edition) n.number n.count n.release (length payload)) payload))

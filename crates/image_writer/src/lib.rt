@@ -9,11 +9,12 @@ ghost use Rattle.image_writer_answer.specs.Answers.{last_for};
 ghost use Rattle.image_writer.specs.Model.{sealed_under};
 ghost use Rattle.image_writer.specs.Calls as spec;
 
-use aes_schedule::{KeySchedule, both_taken};
+use aes_schedule::KeyAnswer;
+use cmac_subkeys::Subkeys;
 use image_block_seal::seal;
 use image_layout::Head;
 use image_limits::{mark_of, tail_size};
-use image_spec::Rounds;
+use image_spec::KeyPair;
 use image_writer_answer::{Numbers, WriteAnswer, judge_write, last_for};
 
 // Seals a payload into the first 512 bytes of the output, as one block of an image; in edition 2 on the check of the block before.
@@ -29,72 +30,42 @@ pub fn write(
     ensures answer { result ≡ spec.write_answer ekey.now ckey.now numbers payload.now output.old }
     ensures written { output.new ≡ spec.write_output result ekey.now ckey.now numbers previous payload.now output.old }
 {
-    let made_e = KeySchedule::new(ekey);
-    let made_c = KeySchedule::new(ckey);
-    let eanswer = made_e.answer;
-    let canswer = made_c.answer;
-    let keys = both_taken(eanswer, canswer);
-    let answer = judge_write(keys, numbers, payload.len(), output.len());
-    let WriteAnswer::Written = answer else {
-        return answer;
-    };
-    let rounds = Rounds {
-        enc: made_e.schedule.rounds,
-        chk: made_c.schedule.rounds,
-    };
-    seal_under(
-        &made_e.schedule.words,
-        &made_c.schedule.words,
-        rounds,
-        numbers,
-        previous,
-        payload,
-        output,
-    );
+    let mut keys = KeyPair::none();
+    let taken = matches!(keys.expand(ekey, ckey), KeyAnswer::Taken);
+    let answer = judge_write(taken, numbers, payload.len(), output.len());
+    if let WriteAnswer::Written = answer {
+        seal_under(&keys, numbers, previous, payload, output);
+    }
     answer
 }
 
 // Seals the block under two schedules.
 fn seal_under(
-    ewords: &[u32; 60],
-    cwords: &[u32; 60],
-    rounds: Rounds,
+    keys: &KeyPair,
     numbers: Numbers,
     previous: [u8; 16],
     payload: &[u8],
     output: &mut [u8],
 )
     requires { (length payload.now ≤ 480) × (is_edition numbers.edition ≡ true) }
-    ensures { output.new ≡ sealed_under ewords.now cwords.now rounds (tail_of numbers.edition (last_for numbers.number previous)) (head_for (edition numbers.edition) numbers.number numbers.count numbers.release (length payload.now)) payload.now output.old }
+    ensures { output.new ≡ sealed_under keys.now (tail_of numbers.edition (last_for numbers.number previous)) (head_for (edition numbers.edition) numbers.number numbers.count numbers.release (length payload.now)) payload.now output.old }
 {
-    let key1 = cmac_subkeys::key1(cwords, rounds.chk);
-    let key2 = cmac_subkeys::key2(key1);
+    let subkeys = Subkeys::new(&keys.chk);
     let head = head_for(numbers, payload.len());
     let last = last_for(numbers.number, previous);
     let covered = tail_size(numbers.edition);
-    seal(
-        ewords,
-        cwords,
-        &key1,
-        &key2,
-        rounds,
-        &last[0..covered],
-        head,
-        payload,
-        output,
-    );
+    seal(keys, &subkeys, &last[..covered], head, payload, output);
 }
 
 fn head_for(numbers: Numbers, len: usize) -> Head
     requires { (len ≤ 480) × (is_edition numbers.edition ≡ true) }
     ensures { result ≡ head_for (edition numbers.edition) numbers.number numbers.count numbers.release len }
 {
-    let mark = mark_of(numbers.edition);
     Head {
         number: numbers.number,
         count: numbers.count,
         release: numbers.release,
         len: len as u16,
-        reserved: mark as u16,
+        reserved: mark_of(numbers.edition) as u16,
     }
 }

@@ -253,10 +253,10 @@ pub read_turn_at_most : (κs : _) (a : _) (r : _) (s : _) → read_turn.Post κs
 read_turn_at_most κs a r s p =
     subst (λ (t : Turn × List ℕ). (t.0.accepted ≤ a.1.1.0) × (t.0.accepted ≤ length a.1.0.now / 512)) (sym p) (at_most a.0 a.1.0.now a.1.1.0 a.1.1.1.0.now)
 
-pub turn_at_most : (κs : _) (a : _) (r : _) (s : _) → turn.Post κs a r s → (r.accepted ≤ a.1.1.1.1.1.0) × (r.accepted ≤ length a.1.1.1.1.0.now / 512)
+pub turn_at_most : (κs : _) (a : _) (r : _) (s : _) → turn.Post κs a r s → (r.accepted ≤ a.1.1.1.0) × (r.accepted ≤ length a.1.1.0.now / 512)
 turn_at_most κs a r s p =
-    subst (λ (t : Turn × List ℕ). (t.0.accepted ≤ a.1.1.1.1.1.0) × (t.0.accepted ≤ length a.1.1.1.1.0.now / 512)) (sym (turn_is_the_readers κs a r s p))
-    (at_most _ a.1.1.1.1.0.now a.1.1.1.1.1.0 a.1.1.1.1.1.1.0.now)
+    subst (λ (t : Turn × List ℕ). (t.0.accepted ≤ a.1.1.1.0) × (t.0.accepted ≤ length a.1.1.0.now / 512)) (sym (turn_is_the_readers κs a r s p))
+    (at_most _ a.1.1.0.now a.1.1.1.0 a.1.1.1.1.0.now)
 
 -- ---- the numbers of the answers, each case of each
 

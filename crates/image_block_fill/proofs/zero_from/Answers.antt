@@ -1,20 +1,17 @@
-use mathlib.Core.Path.{sym, ◌∙◌}
-use Rattle.image_spec.proofs.Opening.{reached_none, reached_not, reached_more, reached_end}
-use native.Mathlib.Omega.{arith}
+use Rattle.std.proofs.Common.{◌≡◌, refl, ◌∙◌, drop, rules, tests, ℕ, ◌&&◌, List, eqb}
+use Rattle.std.specs.List.{list_all}
+use Rattle.std.proofs.lemmas.Iterator.{YieldsList-from_slice}
+use Rattle.std.proofs.lemmas.Iterator.Adapters.{YieldsList-from_skip}
+use Rattle.std.proofs.lemmas.Iterator.Search.{all_from_yields_List}
+use Rattle.std.proofs.lemmas.List.Recursion.{same_from_clauses}
+use Rattle.image_spec.specs.Sealed.{all_zero}
 use Rattle.image_block_fill.proofs.zero_from.Goals as goal
 
-pub loop-i-init : goal.loop-i-init
-loop-i-init c = reached_none c.args.plain c.args.from
-
-pub returns-then-is_left : goal.returns-then-is_left
-returns-then-is_left c = let l = c in
-    let a = l.args in
-    reached_not a.plain a.from l.loop-i.i (omega arith) (sym c.is_left.ensures ∙ c.if-is_left.true) ∙ l.loop-i.invariant
-
-pub loop-i-preserved : goal.loop-i-preserved
-loop-i-preserved c = let l = c in
-    let a = l.args in
-    reached_more a.plain a.from l.loop-i.i (omega arith) (sym c.is_left.ensures ∙ c.if-is_left.false) ∙ l.loop-i.invariant
+-- the test of one byte after another is the definition's
+same : (s : List ℕ) → list_all (λ x. eqb x 0) s ≡ all_zero s
+same = same_from_clauses (list_all (λ x. eqb x 0)) all_zero (λ x r. eqb x 0 && r) refl (λ _ _. refl) (λ _ _. refl)
 
 pub returns : goal.returns
-returns c = let l = c in reached_end l.args.plain l.args.from l.loop-i.i (omega arith) ∙ l.loop-i.invariant
+returns c =
+    let from = YieldsList-from_skip {s = c.skip.result} c.args.from (YieldsList-from_slice c.args.plain (rw c.skip.ensures.source c.iter.ensures.rest)) c.skip.ensures.count in
+    all_from_yields_List (λ x. eqb x 0) _ _ _ c.all.ensures.ran from (λ x b q k. search (rules, tests)) ∙ same (drop c.args.from c.args.plain)

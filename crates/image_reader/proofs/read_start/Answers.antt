@@ -1,11 +1,12 @@
-use mathlib.Core.Path.{sym, ◌∙◌}
+use mathlib.Core.Path.{ap, ◌∙◌}
+use Rattle.aes_schedule.specs.declared.KeyAnswer.TheVariants.{KeyLength}
+use Rattle.image_reader.specs.Calls.{start_with}
 use Rattle.image_reader.proofs.Calls.{start_taken, start_refused}
 use Rattle.image_reader.proofs.read_start.Goals as goal
 
-pub returns-then-both_taken : goal.returns-then-both_taken
-returns-then-both_taken c =
-    start_taken c.args.ekey.now c.args.ckey.now _ _ c.new-made_e.ensures c.new-made_c.ensures _ (sym c.both_taken.ensures ∙ c.if-both_taken.true) c.started.ensures
+pub returns-in_default : goal.returns-in_default
+returns-in_default c =
+    start_refused c.args.ekey.now c.args.ckey.now _ c.expand.ensures.answer c.in_default.not-Taken _ (c.started.ensures ∙ ap (start_with KeyLength) c.none.ensures)
 
 pub returns : goal.returns
-returns c =
-    start_refused c.args.ekey.now c.args.ckey.now _ _ c.new-made_e.ensures c.new-made_c.ensures _ (sym c.both_taken.ensures ∙ c.if-both_taken.false) c.started-2.ensures
+returns c = start_taken c.args.ekey.now c.args.ckey.now _ c.expand.ensures.answer c.in-Taken.is _ c.expand.ensures.keys _ c.started-2.ensures

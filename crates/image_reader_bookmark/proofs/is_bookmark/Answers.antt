@@ -1,4 +1,7 @@
-use mathlib.Core.Path.{◌∙◌}
+use mathlib.Core.Path.{◌≡◌, ◌∙◌}
+use lib.ListN.{length}
+use native.Mathlib.Omega.{arith}
+use borrow.Author.Rules.{rules}
 use Rattle.aes_spec.specs.Cipher.{standard}
 use Rattle.cmac_spec.specs.Cmac.{cmac}
 use Rattle.image_reader_bookmark.proofs.Laws.{bookmark_by}
@@ -7,4 +10,5 @@ use Rattle.image_reader_bookmark.proofs.is_bookmark.Goals as goal
 pub returns : goal.returns
 returns c =
     let a = c.args in
-    c.equal.ensures ∙ bookmark_by (cmac (standard a.words.now a.rounds)) a.bookmark.now c.requires _ c.check_with-made.type_inv.1.0.1 c.check_with-made.ensures
+    let size : length a.bookmark.now ≡ 56 = search rules in
+    c.equal.ensures ∙ bookmark_by (cmac (standard a.chk.now.words a.chk.now.rounds)) a.bookmark.now _ 16 c.check_with-made.ensures (omega (arith, size))

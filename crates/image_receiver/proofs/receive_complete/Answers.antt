@@ -6,6 +6,6 @@ pub returns-then-holds_all : goal.returns-then-holds_all
 unfolding all_held
 returns-then-holds_all c = rw (sym c.holds_all.ensures ∙ c.if-holds_all.true)
 
-pub returns : goal.returns
+pub returns-else-holds_all : goal.returns-else-holds_all
 unfolding all_held
-returns c = rw (sym c.holds_all.ensures ∙ c.if-holds_all.false)
+returns-else-holds_all c = rw (sym c.holds_all.ensures ∙ c.if-holds_all.false)

@@ -8,7 +8,7 @@ use Rattle.image_layout.specs.Layout.{head_of_lem}
 use Rattle.image_reasons.specs.declared.Reason.TheVariants.{CheckWrong}
 use Rattle.image_spec.specs.Sealed.{checks}
 use Rattle.image_spec.proofs.Judging.{head_of_block}
-use Rattle.image_spec.specs.KeyPair.{keys_under}
+use Rattle.image_spec.specs.KeyPair.{pair_keys}
 use Rattle.image_receiver_answer.specs.Answers.{room_for}
 use Rattle.image_receiver_answer.specs.declared.ReceiveAnswer.TheVariants.{NotABlock, NoRoom, Because}
 use Rattle.image_receiver_answer.proofs.Order.{refuses_else, header_below}
@@ -18,20 +18,20 @@ use Rattle.image_receiver_block.proofs.receive_block.Goals as goal
 pub returns-then-block-ne512 : goal.returns-then-block-ne512
 returns-then-block-ne512 c =
     let a = c.args in
-    let k = keys_under a.ewords.now a.cwords.now a.rounds in
+    let k = pair_keys a.keys.now in
     refused_by k a.receipt a.block.now a.store.now a.map.now NotABlock (answer_6 k a.receipt a.block.now a.store.now a.map.now c.if-block-ne512.true) refl _ c.answered.ensures
 
 pub returns-then-not-has_room : goal.returns-then-not-has_room
 returns-then-not-has_room c =
     let a = c.args in
-    let k = keys_under a.ewords.now a.cwords.now a.rounds in
+    let k = pair_keys a.keys.now in
     refused_by k a.receipt a.block.now a.store.now a.map.now NoRoom
     (answer_4 k a.receipt a.block.now a.store.now a.map.now c.if-block-ne512.false (sym c.has_room.ensures ∙ c.if-not-has_room.true)) refl _ c.answered-then-not-has_room.ensures
 
 pub returns-then-not-checked : goal.returns-then-not-checked
 returns-then-not-checked c =
     let a = c.args in
-    let k = keys_under a.ewords.now a.cwords.now a.rounds in
+    let k = pair_keys a.keys.now in
     let room : room_for a.receipt.count (length a.store.now) (length a.map.now) ≡ true = sym c.has_room.ensures ∙ c.if-not-has_room.false in
     refused_by k a.receipt a.block.now a.store.now a.map.now (Because CheckWrong)
     (answer_14 k a.receipt a.block.now a.store.now a.map.now c.if-block-ne512.false room (sym c.checked.ensures ∙ c.if-not-checked.true)) refl _ c.answered-then-not-checked.ensures
@@ -39,7 +39,7 @@ returns-then-not-checked c =
 pub returns-in_default : goal.returns-in_default
 returns-in_default c =
     let a = c.args in
-    let k = keys_under a.ewords.now a.cwords.now a.rounds in
+    let k = pair_keys a.keys.now in
     let size = c.if-block-ne512.false in
     let room : room_for a.receipt.count (length a.store.now) (length a.map.now) ≡ true = sym c.has_room.ensures ∙ c.if-not-has_room.false in
     let right : (k.usable && checks k.mac [] a.block.now) ≡ true = sym c.checked.ensures ∙ c.if-not-checked.false in
@@ -51,7 +51,7 @@ returns-in_default c =
 pub keep-requires : goal.keep-requires
 keep-requires c =
     let a = c.args in
-    let k = keys_under a.ewords.now a.cwords.now a.rounds in
+    let k = pair_keys a.keys.now in
     let size = c.if-block-ne512.false in
     let room : room_for a.receipt.count (length a.store.now) (length a.map.now) ≡ true = sym c.has_room.ensures ∙ c.if-not-has_room.false in
     let right : (k.usable && checks k.mac [] a.block.now) ≡ true = sym c.checked.ensures ∙ c.if-not-checked.false in
@@ -60,13 +60,13 @@ keep-requires c =
       head,
       header_below a.receipt c.head_of-head.result (sym c.judge_header-told.ensures ∙ c.in-Received.is),
       room,
-      (and_true (round_count a.rounds.enc) (round_count a.rounds.chk) (and_true k.usable (checks k.mac [] a.block.now) right).0).0,
+      (and_true (round_count a.keys.now.enc.rounds) (round_count a.keys.now.chk.rounds) (and_true k.usable (checks k.mac [] a.block.now) right).0).0,
     )
 
 pub returns : goal.returns
 returns c =
     let a = c.args in
-    let k = keys_under a.ewords.now a.cwords.now a.rounds in
+    let k = pair_keys a.keys.now in
     let size = c.if-block-ne512.false in
     let room : room_for a.receipt.count (length a.store.now) (length a.map.now) ≡ true = sym c.has_room.ensures ∙ c.if-not-has_room.false in
     let right : (k.usable && checks k.mac [] a.block.now) ≡ true = sym c.checked.ensures ∙ c.if-not-checked.false in

@@ -1,6 +1,7 @@
-use mathlib.Core.Path.{◌≡◌, ap, ◌∙◌}
+use mathlib.Core.Path.{◌≡◌, sym, ap, ◌∙◌}
 use lib.ListN.{length}
-use Rattle.cmac_spec.specs.Cmac.{key2}
+use lib.Seq.{length-take-le}
+use Rattle.cmac_subkeys.specs.declared.Subkeys.{Subkeys}
 use Rattle.image_spec.specs.Edition.{tail_of}
 use Rattle.image_spec.proofs.Editions.{tail_part, tail_size_most}
 use native.Mathlib.Omega.{arith}
@@ -12,12 +13,14 @@ head_for-head-requires c = c.requires
 pub slice_bounds-seal-end : goal.slice_bounds-seal-end
 slice_bounds-seal-end c =
     let l : length c.last_for-last.result ≡ 16 = c.last_for-last.type_inv.1.0.1 in
-    omega (arith, c.tail_size-covered.ensures, tail_size_most c.args.numbers.edition, l)
+    sym (length-take-le c.tail_size-covered.result c.last_for-last.result (omega (arith, c.tail_size-covered.ensures, tail_size_most c.args.numbers.edition, l)))
+
+pub slice_bounds-last-end : goal.slice_bounds-last-end
+slice_bounds-last-end c = omega (arith, c.tail_size-covered.ensures, tail_size_most c.args.numbers.edition)
 
 pub returns : goal.returns
-unfolding key2
 returns c =
     let n = c.args.numbers in
     let l : length c.last_for-last.result ≡ 16 = c.last_for-last.type_inv.1.0.1 in
     let tail = tail_part n.edition c.tail_size-covered.result c.last_for-last.result l c.tail_size-covered.ensures ∙ ap (tail_of n.edition) c.last_for-last.ensures in
-    c.seal.ensures ∙ rw (tail, c.head_for-head.ensures, c.key2-key2.ensures, c.key1-key1.ensures)
+    c.seal.ensures ∙ rw (tail, c.head_for-head.ensures, c.new-subkeys.ensures)

@@ -124,8 +124,7 @@ resumes ekey ckey b te tc e =
 pub refused_resume_gives_zeros : (ekey ckey b : List ℕ) → (resume_number (resume_of ekey ckey b).answer ≡ 0 → ⊥)
     → ((resume_of ekey ckey b).bytes ≡ 0)
     × ((resume_of ekey ckey b).reader ≡ record {
-      enc = record { words = replicate 60 0; rounds = 0 };
-      chk = record { words = replicate 60 0; rounds = 0 };
+      keys = record { enc = record { words = replicate 60 0; rounds = 0 }; chk = record { words = replicate 60 0; rounds = 0 } };
       progress = record { next = 0; count = 0; release = 0; edition = 0; last = replicate 16 0 };
     })
 refused_resume_gives_zeros ekey ckey b =
@@ -134,8 +133,7 @@ refused_resume_gives_zeros ekey ckey b =
   where
     none : Reader
     none = record {
-      enc = record { words = replicate 60 0; rounds = 0 };
-      chk = record { words = replicate 60 0; rounds = 0 };
+      keys = record { enc = record { words = replicate 60 0; rounds = 0 }; chk = record { words = replicate 60 0; rounds = 0 } };
       progress = record { next = 0; count = 0; release = 0; edition = 0; last = replicate 16 0 };
     }
 
@@ -220,8 +218,7 @@ read_resume_determined κs a r r' s s' p q = p ∙ sym q
 pub read_resume_refused_gives_zeros : (κs : _) (a : _) (r : _) (s : _) → read_resume.Post κs a r s → (resume_number r.answer ≡ 0 → ⊥)
     → (r.bytes ≡ 0)
     × (r.reader ≡ record {
-      enc = record { words = replicate 60 0; rounds = 0 };
-      chk = record { words = replicate 60 0; rounds = 0 };
+      keys = record { enc = record { words = replicate 60 0; rounds = 0 }; chk = record { words = replicate 60 0; rounds = 0 } };
       progress = record { next = 0; count = 0; release = 0; edition = 0; last = replicate 16 0 };
     })
 read_resume_refused_gives_zeros κs a r s p n =

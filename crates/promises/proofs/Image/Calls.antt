@@ -8,7 +8,6 @@ use lib.Dec.{leb}
 use lib.ListN.{length, get_or, take, drop, replicate}
 use Rattle.octets.specs.Octets.{Bytes, Octets, over}
 use Rattle.aes_schedule.specs.Schedule.{key_number}
-use Rattle.aes_spec.specs.Model.{equivalent_cipher}
 use Rattle.cmac_spec.specs.Cmac.{SameOutside}
 use Rattle.image_limits.specs.Marks.{selected}
 use Rattle.image_reasons.specs.Reasons.{verdict_number}
@@ -20,10 +19,10 @@ use Rattle.image_layout.specs.Layout.{head_of_lem}
 use Rattle.image_spec.specs.Edition.{Edition}
 use Rattle.image_spec.specs.Sealed.{filled}
 use Rattle.image_spec.specs.Judge.{Keys, either}
-use Rattle.image_spec.specs.declared.Rounds.{Rounds}
-use Rattle.image_spec.specs.KeyPair.{usable}
+use Rattle.image_spec.specs.declared.KeyPair.{KeyPair}
+use Rattle.image_spec.specs.KeyPair.{usable, rounds_of}
 use Rattle.image_spec.specs.Sealed.{is_block}
-use Rattle.image_spec.specs.Model.{lent_mac, lent_keys, opened_over, sealed_over}
+use Rattle.image_spec.specs.Model.{lent_cipher, lent_mac_of, lent_of, opened_over, sealed_over}
 use Rattle.image_spec.proofs.Sizes.{mac_sized}
 use Rattle.image_spec.proofs.Judging.{checks_none, verdict_read, head_read}
 use Rattle.image_spec.proofs.Opening.{fill_of_none}
@@ -59,9 +58,8 @@ use Rattle.image_block_fill.proofs.fill_is_zero.Reads as fill_is_zero
 use Rattle.image_block_judge.proofs.judge.Reads as judge
 use Rattle.image_block_open.proofs.open_block.Reads as open_block
 use Rattle.image_block_seal.proofs.seal.Reads as seal
-use Rattle.image_reader_tally.proofs.blocks_read.Reads as blocks_read
+use Rattle.image_reader_tally.proofs.BlocksRead.none.Reads as none_read
 use Rattle.image_reader_tally.proofs.may_ask.Reads as may_ask
-use Rattle.image_reader_tally.proofs.turn_goes_on.Reads as turn_goes_on
 use Rattle.image_reader_tally.proofs.after_block.Reads as after_block
 use Rattle.image_reader.proofs.read_start.Reads as read_start
 use Rattle.image_reader.proofs.read_complete.Reads as read_complete
@@ -178,12 +176,12 @@ pub open_block_asks_nothing : (κs : _) (a : _) → open_block.Asked κs a
 open_block_asks_nothing κs a = tt
 
 pub open_block_determined : (κs : _) (a : _) (r r' : _) (s s' : _) → open_block.Post κs a r s → open_block.Post κs a r' s'
-    → s.1.1.1.1.0.now ≡ s'.1.1.1.1.0.now
+    → s.1.1.1.0.now ≡ s'.1.1.1.0.now
 open_block_determined κs a r r' s s' p q = p ∙ sym q
 
 -- where there is no block of 512 bytes, or no room for 480, nothing is written
 pub open_block_refused_keeps : (κs : _) (a : _) (r : _) (s : _) → open_block.Post κs a r s
-    → (is_block a.1.1.1.0.now && leb 480 (length a.1.1.1.1.0.now)) ≡ false → s.1.1.1.1.0.now ≡ a.1.1.1.1.0.now
+    → (is_block a.1.1.0.now && leb 480 (length a.1.1.1.0.now)) ≡ false → s.1.1.1.0.now ≡ a.1.1.1.0.now
 unfolding opened_over
 open_block_refused_keeps κs a r s p e = p ∙ rw e
 
@@ -191,45 +189,45 @@ pub seal_asks_nothing : (κs : _) (a : _) → seal.Asked κs a
 seal_asks_nothing κs a = tt
 
 pub seal_determined : (κs : _) (a : _) (r r' : _) (s s' : _) → seal.Post κs a r s → seal.Post κs a r' s'
-    → s.1.1.1.1.1.1.1.1.0.now ≡ s'.1.1.1.1.1.1.1.1.0.now
+    → s.1.1.1.1.1.0.now ≡ s'.1.1.1.1.1.0.now
 seal_determined κs a r r' s s' p q = p ∙ sym q
 
 -- where the payload is over 480 bytes, or there is no room for 512, nothing is written
 pub seal_refused_keeps : (κs : _) (a : _) (r : _) (s : _) → seal.Post κs a r s
-    → (leb (length a.1.1.1.1.1.1.1.0.now) 480 && leb 512 (length a.1.1.1.1.1.1.1.1.0.now)) ≡ false → s.1.1.1.1.1.1.1.1.0.now ≡ a.1.1.1.1.1.1.1.1.0.now
+    → (leb (length a.1.1.1.1.0.now) 480 && leb 512 (length a.1.1.1.1.1.0.now)) ≡ false → s.1.1.1.1.1.0.now ≡ a.1.1.1.1.1.0.now
 unfolding sealed_over
 seal_refused_keeps κs a r s p e = p ∙ rw e
 
 -- what is no block of 512 bytes has no right check and no zero fill
-pub check_holds_of_blocks_alone : (κs : _) (a : _) (r : _) (s : _) → check_holds.Post κs a r s → (length a.1.1.1.1.1.0.now ≡ 512 → ⊥) → r ≡ false
+pub check_holds_of_blocks_alone : (κs : _) (a : _) (r : _) (s : _) → check_holds.Post κs a r s → (length a.1.1.1.0.now ≡ 512 → ⊥) → r ≡ false
 check_holds_of_blocks_alone κs a r s p n =
-    p ∙ sym (checks_none (lent_mac a.0.now a.1.1.1.0.chk a.1.0.now a.1.1.0.now) a.1.1.1.1.0.now a.1.1.1.1.1.0.now (mac_sized a.0.now a.1.1.1.0.chk a.1.0.now a.1.1.0.now) n (usable a.1.1.1.0))
+    p ∙ sym (checks_none (lent_mac_of a.0.now.chk a.1.0.now) a.1.1.0.now a.1.1.1.0.now (mac_sized a.0.now.chk.words a.0.now.chk.rounds a.1.0.now.key1 a.1.0.now.key2) n (usable (rounds_of a.0.now)))
 
-pub fill_is_zero_of_blocks_alone : (κs : _) (a : _) (r : _) (s : _) → fill_is_zero.Post κs a r s → (length a.1.1.1.0.now ≡ 512 → ⊥) → r ≡ false
+pub fill_is_zero_of_blocks_alone : (κs : _) (a : _) (r : _) (s : _) → fill_is_zero.Post κs a r s → (length a.1.1.0.now ≡ 512 → ⊥) → r ≡ false
 fill_is_zero_of_blocks_alone κs a r s p n =
-    p ∙ sym (fill_of_none (equivalent_cipher a.0.now a.1.0.now a.1.1.0) a.1.1.1.1.0 a.1.1.1.0.now n)
+    p ∙ sym (fill_of_none (lent_cipher a.0.now a.1.0.now) a.1.1.1.0 a.1.1.0.now n)
 
 -- ---- demand 2 for one block: the verdict is the first row of the table that holds, and the header is the block's
 
 module _ (κs : _) (a : _) (r : _) (s : _) (p : judge.Post κs a r s) where
   abbrev lent : Keys
-  lent = lent_keys a.0.now a.1.0.now a.1.1.0.now a.1.1.1.0.now a.1.1.1.1.0.now a.1.1.1.1.1.0
+  lent = lent_of a.0.now a.1.0.now a.1.1.0.now
 
   -- the edition that it is held to
   abbrev held_to : Edition
-  held_to = either a.1.1.1.1.1.1.0 (head_of_lem a.1.1.1.1.1.1.1.0.now).reserved
+  held_to = either a.1.1.1.0 (head_of_lem a.1.1.1.1.0.now).reserved
 
-  pub judge_as_told : Says lent held_to a.1.1.1.1.1.1.0 a.1.1.1.1.1.1.1.0.now r.verdict
+  pub judge_as_told : Says lent held_to a.1.1.1.0 a.1.1.1.1.0.now r.verdict
   judge_as_told =
-      subst (Says lent held_to a.1.1.1.1.1.1.0 a.1.1.1.1.1.1.1.0.now)
-      (sym (verdict_read lent a.1.1.1.1.1.1.0 a.1.1.1.1.1.1.1.0.now r p)) (verdict_as_told lent held_to a.1.1.1.1.1.1.0 a.1.1.1.1.1.1.1.0.now)
+      subst (Says lent held_to a.1.1.1.0 a.1.1.1.1.0.now)
+      (sym (verdict_read lent a.1.1.1.0 a.1.1.1.1.0.now r p)) (verdict_as_told lent held_to a.1.1.1.0 a.1.1.1.1.0.now)
 
-  pub judge_done : ((q : Reason) → Row lent held_to a.1.1.1.1.1.1.0 a.1.1.1.1.1.1.1.0.now q → ⊥) → verdict_number r.verdict ≡ 0
+  pub judge_done : ((q : Reason) → Row lent held_to a.1.1.1.0 a.1.1.1.1.0.now q → ⊥) → verdict_number r.verdict ≡ 0
   judge_done n =
-      ap verdict_number (verdict_read lent a.1.1.1.1.1.1.0 a.1.1.1.1.1.1.1.0.now r p ∙ verdict_done lent held_to a.1.1.1.1.1.1.0 a.1.1.1.1.1.1.1.0.now n)
+      ap verdict_number (verdict_read lent a.1.1.1.0 a.1.1.1.1.0.now r p ∙ verdict_done lent held_to a.1.1.1.0 a.1.1.1.1.0.now n)
 
-  pub judge_reads_the_header : length a.1.1.1.1.1.1.1.0.now ≡ 512 → r.head ≡ head_of_lem a.1.1.1.1.1.1.1.0.now
-  judge_reads_the_header e = head_read lent a.1.1.1.1.1.1.0 a.1.1.1.1.1.1.1.0.now r p e
+  pub judge_reads_the_header : length a.1.1.1.1.0.now ≡ 512 → r.head ≡ head_of_lem a.1.1.1.1.0.now
+  judge_reads_the_header e = head_read lent a.1.1.1.0 a.1.1.1.1.0.now r p e
 
 -- ---- demand 1 for what a turn has done
 
@@ -245,23 +243,17 @@ last_for_asks_nothing κs a = tt
 pub last_for_determined : (κs : _) (a : _) (r r' : _) (s s' : _) → last-for.Post κs a r s → last-for.Post κs a r' s' → r ≡ r'
 last_for_determined κs a r r' s s' p q = p ∙ sym q
 
-pub blocks_read_asks_nothing : (κs : _) (a : _) → blocks_read.Asked κs a
-blocks_read_asks_nothing κs a = tt
+pub none_read_asks_nothing : (κs : _) (a : _) → none_read.Asked κs a
+none_read_asks_nothing κs a = tt
 
-pub blocks_read_determined : (κs : _) (a : _) (r r' : _) (s s' : _) → blocks_read.Post κs a r s → blocks_read.Post κs a r' s' → r ≡ r'
-blocks_read_determined κs a r r' s s' p q = p ∙ sym q
+pub none_read_determined : (κs : _) (a : _) (r r' : _) (s s' : _) → none_read.Post κs a r s → none_read.Post κs a r' s' → r ≡ r'
+none_read_determined κs a r r' s s' p q = p ∙ sym q
 
 pub may_ask_asks_nothing : (κs : _) (a : _) → may_ask.Asked κs a
 may_ask_asks_nothing κs a = tt
 
 pub may_ask_determined : (κs : _) (a : _) (r r' : _) (s s' : _) → may_ask.Post κs a r s → may_ask.Post κs a r' s' → r ≡ r'
 may_ask_determined κs a r r' s s' p q = p ∙ sym q
-
-pub turn_goes_on_asks_nothing : (κs : _) (a : _) → turn_goes_on.Asked κs a
-turn_goes_on_asks_nothing κs a = tt
-
-pub turn_goes_on_determined : (κs : _) (a : _) (r r' : _) (s s' : _) → turn_goes_on.Post κs a r s → turn_goes_on.Post κs a r' s' → r ≡ r'
-turn_goes_on_determined κs a r r' s s' p q = p ∙ sym q
 
 pub after_block_asks_nothing : (κs : _) (a : _) → after_block.Asked κs a
 after_block_asks_nothing κs a = tt
@@ -324,34 +316,34 @@ pub turn_asks_nothing : (κs : _) (a : _) → turn.Asked κs a
 turn_asks_nothing κs a = tt
 
 pub turn_determined : (κs : _) (a : _) (r r' : _) (s s' : _) → turn.Post κs a r s → turn.Post κs a r' s'
-    → (r ≡ r') × (s.1.1.1.1.1.1.0.now ≡ s'.1.1.1.1.1.1.0.now)
+    → (r ≡ r') × (s.1.1.1.1.0.now ≡ s'.1.1.1.1.0.now)
 turn_determined κs a r r' s s' p q =
     let e = p ∙ sym q in
     (ap (λ (x : BlocksRead × List ℕ). x.0) e, ap (λ (x : BlocksRead × List ℕ). x.1) e)
 
 -- the reader that has these schedules and this progress
-abbrev holding : (ewords cwords : List ℕ) → Rounds → Progress → Reader
-holding ewords cwords n s = record { enc = record { words = ewords; rounds = n.enc }; chk = record { words = cwords; rounds = n.chk }; progress = s }
+abbrev holding : KeyPair → Progress → Reader
+holding keys s = record { keys = keys; progress = s }
 
 module _ (κs : _) (a : _) (r : _) (s : _) (p : turn.Post κs a r s) where
   abbrev held : Reader
-  held = holding a.0.now a.1.0.now a.1.1.0 a.1.1.1.0
+  held = holding a.0.now a.1.0
 
   abbrev turn_lent : List ℕ
-  turn_lent = a.1.1.1.1.0.now
+  turn_lent = a.1.1.0.now
 
   abbrev asked : ℕ
-  asked = a.1.1.1.1.1.0
+  asked = a.1.1.1.0
 
   abbrev before : List ℕ
-  before = a.1.1.1.1.1.1.0.now
+  before = a.1.1.1.1.0.now
 
   -- it is the turn of that reader
-  pub turn_is_the_readers : (turn_after held r, s.1.1.1.1.1.1.0.now) ≡ turn_of held turn_lent asked before
+  pub turn_is_the_readers : (turn_after held r, s.1.1.1.1.0.now) ≡ turn_of held turn_lent asked before
   unfolding turn_of
   turn_is_the_readers = ap (λ (x : BlocksRead × List ℕ). (turn_after held x.0, x.1)) p
 
-  pub turn_refused_keeps : Whole r.stop → (s.1.1.1.1.1.1.0.now ≡ before) × (r.progress ≡ a.1.1.1.0)
+  pub turn_refused_keeps : Whole r.stop → (s.1.1.1.1.0.now ≡ before) × (r.progress ≡ a.1.0)
   turn_refused_keeps h =
       let e : r.stop ≡ (turn_of held turn_lent asked before).0.stop = ap (λ (x : Turn × List ℕ). x.0.stop) turn_is_the_readers in
       let k = turn_is_the_readers ∙ turn_refusal_keeps held turn_lent asked before r.stop h (sym e) in
@@ -360,7 +352,7 @@ module _ (κs : _) (a : _) (r : _) (s : _) (p : turn.Post κs a r s) where
   pub turn_as_told : StopSays held turn_lent asked before r.stop
   turn_as_told = subst (StopSays held turn_lent asked before) (sym (ap (λ (x : Turn × List ℕ). x.0.stop) turn_is_the_readers)) (turn_stop_as_told held turn_lent asked before)
 
-  pub turn_done : Fair turn_lent asked before → AllMet (keys_of held) either a.1.1.1.0 (handled turn_lent asked) (given turn_lent asked) → stop_number r.stop ≡ 0
+  pub turn_done : Fair turn_lent asked before → AllMet (keys_of held) either a.1.0 (handled turn_lent asked) (given turn_lent asked) → stop_number r.stop ≡ 0
   turn_done f m = ap (λ (x : Turn × List ℕ). stop_number x.0.stop) turn_is_the_readers ∙ ap stop_number (turn_ends held turn_lent asked before f m)
 
 -- ---- demand 2: each answer is the first row of the table that holds, and where none does the call is done
@@ -385,8 +377,7 @@ read_start_done κs a r s p te tc = ap (λ (x : ReadStarted). key_number x.answe
 -- a start with a key that is not taken gives zeros
 pub read_start_refused_zeros : (κs : _) (a : _) (r : _) (s : _) → read_start.Post κs a r s → key_number r.answer ≡ 1
     → r.reader ≡ record {
-      enc = record { words = replicate 60 0; rounds = 0 };
-      chk = record { words = replicate 60 0; rounds = 0 };
+      keys = record { enc = record { words = replicate 60 0; rounds = 0 }; chk = record { words = replicate 60 0; rounds = 0 } };
       progress = record { next = 0; count = 0; release = 0; edition = 0; last = replicate 16 0 };
     }
 read_start_refused_zeros κs a r s p e =

@@ -123,8 +123,7 @@ start_takes ekey ckey te tc = (start_fresh ekey ckey te tc).0
 -- a refused start gives zeros: no words, no rounds, and no progress
 pub refused_start_gives_zeros : (ekey ckey : List ℕ) → key_number (start_of ekey ckey).answer ≡ 1
     → (start_of ekey ckey).reader ≡ record {
-      enc = record { words = replicate 60 0; rounds = 0 };
-      chk = record { words = replicate 60 0; rounds = 0 };
+      keys = record { enc = record { words = replicate 60 0; rounds = 0 }; chk = record { words = replicate 60 0; rounds = 0 } };
       progress = record { next = 0; count = 0; release = 0; edition = 0; last = replicate 16 0 };
     }
 refused_start_gives_zeros ekey ckey h = start_zeros ekey ckey h

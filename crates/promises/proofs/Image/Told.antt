@@ -21,7 +21,7 @@ use Rattle.image_reasons.specs.declared.Reason.{Reason}
 use Rattle.image_reasons.specs.declared.Verdict.{Verdict}
 use Rattle.image_reasons.specs.declared.Verdict.TheVariants.{Accepted, Refused}
 use Rattle.image_spec.specs.Sealed.{opened}
-use Rattle.image_spec.specs.KeyPair.{keys_under}
+use Rattle.image_spec.specs.KeyPair.{pair_keys}
 use Rattle.image_reader.specs.declared.Reader.{Reader}
 use Rattle.image_reader.specs.declared.Turn.{Turn}
 use Rattle.image_reader.specs.Calls.{keys_of, turn_of}
@@ -145,22 +145,22 @@ module _ (κs : _) (a : _) (r : _) (s : _) (p : read_turn.Post κs a r s) (bytes
       × (r.bytes ≡ length (parts (keys_of a.0).enc (take r.accepted (given a.1.0.now a.1.1.0))))
   read_turn_fills = fills a.0 a.1.0.now a.1.1.0 a.1.1.1.0.now (r, s.1.1.1.0.now) p bytes
 
-module _ (κs : _) (a : _) (r : _) (s : _) (p : turn.Post κs a r s) (bytes : Bytes a.1.1.1.1.0.now) where
+module _ (κs : _) (a : _) (r : _) (s : _) (p : turn.Post κs a r s) (bytes : Bytes a.1.1.0.now) where
   -- the cipher of the schedule that is lent to decrypt with
   abbrev under : BlockCipher
-  under = (keys_under a.0.now a.1.0.now a.1.1.0).enc
+  under = (pair_keys a.0.now).enc
 
   -- the blocks that it handles
   abbrev offered : List (List ℕ)
-  offered = given a.1.1.1.1.0.now a.1.1.1.1.1.0
+  offered = given a.1.1.0.now a.1.1.1.0
 
-  pub turn_under_puts : (j : ℕ) → j < r.accepted → take 480 (drop (480 * j) s.1.1.1.1.1.1.0.now) ≡ opened under (get_or offered j [])
-  turn_under_puts = puts _ a.1.1.1.1.0.now a.1.1.1.1.1.0 a.1.1.1.1.1.1.0.now _ (turn_is_the_readers κs a r s p) bytes
+  pub turn_under_puts : (j : ℕ) → j < r.accepted → take 480 (drop (480 * j) s.1.1.1.1.0.now) ≡ opened under (get_or offered j [])
+  turn_under_puts = puts _ a.1.1.0.now a.1.1.1.0 a.1.1.1.1.0.now _ (turn_is_the_readers κs a r s p) bytes
 
-  pub turn_under_output : (take (480 * r.accepted) s.1.1.1.1.1.1.0.now ≡ plains under (take r.accepted offered))
-      × (drop (480 * r.accepted) s.1.1.1.1.1.1.0.now ≡ drop (480 * r.accepted) a.1.1.1.1.1.1.0.now)
-      × (length s.1.1.1.1.1.1.0.now ≡ length a.1.1.1.1.1.1.0.now)
-  turn_under_output = leaves _ a.1.1.1.1.0.now a.1.1.1.1.1.0 a.1.1.1.1.1.1.0.now _ (turn_is_the_readers κs a r s p) bytes
+  pub turn_under_output : (take (480 * r.accepted) s.1.1.1.1.0.now ≡ plains under (take r.accepted offered))
+      × (drop (480 * r.accepted) s.1.1.1.1.0.now ≡ drop (480 * r.accepted) a.1.1.1.1.0.now)
+      × (length s.1.1.1.1.0.now ≡ length a.1.1.1.1.0.now)
+  turn_under_output = leaves _ a.1.1.0.now a.1.1.1.0 a.1.1.1.1.0.now _ (turn_is_the_readers κs a r s p) bytes
 
   pub turn_under_fills : AllFilled under (take r.accepted offered) × (r.bytes ≡ length (parts under (take r.accepted offered)))
-  turn_under_fills = fills _ a.1.1.1.1.0.now a.1.1.1.1.1.0 a.1.1.1.1.1.1.0.now _ (turn_is_the_readers κs a r s p) bytes
+  turn_under_fills = fills _ a.1.1.0.now a.1.1.1.0 a.1.1.1.1.0.now _ (turn_is_the_readers κs a r s p) bytes

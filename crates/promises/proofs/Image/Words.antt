@@ -216,7 +216,7 @@ image ed ek ck release p = written ed ek ck (blocks p) release no_check 0 (block
 
 -- a reader in a given state, and the one that two keys start
 abbrev pub in_state : Reader → Progress → Reader
-in_state r s = record { enc = r.enc; chk = r.chk; progress = s }
+in_state r s = record { keys = r.keys; progress = s }
 
 abbrev pub reader_of : (ekey ckey : List ℕ) → Progress → Reader
 reader_of ekey ckey s = in_state (start_of ekey ckey).reader s

@@ -123,8 +123,7 @@ start_refused ekey ckey h = go (both_taken (schedule_of s_box ekey) (schedule_of
 -- and is zeros all over
 pub start_zeros : (ekey ckey : List ℕ) → key_number (start_of ekey ckey).answer ≡ 1
     → (start_of ekey ckey).reader ≡ record {
-      enc = record { words = replicate 60 0; rounds = 0 };
-      chk = record { words = replicate 60 0; rounds = 0 };
+      keys = record { enc = record { words = replicate 60 0; rounds = 0 }; chk = record { words = replicate 60 0; rounds = 0 } };
       progress = record { next = 0; count = 0; release = 0; edition = 0; last = replicate 16 0 };
     }
 unfolding start_of
@@ -132,8 +131,7 @@ start_zeros ekey ckey h = go (both_taken (schedule_of s_box ekey) (schedule_of s
   where
     go : (t : Bool) → both_taken (schedule_of s_box ekey) (schedule_of s_box ckey) ≡ t → key_number (started_by (schedule_of s_box ekey) (schedule_of s_box ckey)).answer ≡ 1
         → (started_by (schedule_of s_box ekey) (schedule_of s_box ckey)).reader ≡ record {
-          enc = record { words = replicate 60 0; rounds = 0 };
-          chk = record { words = replicate 60 0; rounds = 0 };
+          keys = record { enc = record { words = replicate 60 0; rounds = 0 }; chk = record { words = replicate 60 0; rounds = 0 } };
           progress = record { next = 0; count = 0; release = 0; edition = 0; last = replicate 16 0 };
         }
     go true e q =
@@ -142,10 +140,10 @@ start_zeros ekey ckey h = go (both_taken (schedule_of s_box ekey) (schedule_of s
     go false e q = rw e
 
 -- usable schedules make lawful ciphers, whatever their words
-pub usable_lawful : (r : Reader) → (keys_of r).usable ≡ true → Lawful 16 (keys_of r).enc × Lawful 16 (standard r.chk.words r.chk.rounds)
+pub usable_lawful : (r : Reader) → (keys_of r).usable ≡ true → Lawful 16 (keys_of r).enc × Lawful 16 (standard r.keys.chk.words r.keys.chk.rounds)
 usable_lawful r h =
-    let a = and_true (round_count r.enc.rounds) (round_count r.chk.rounds) h in
-    (aes_lawful r.enc.words r.enc.rounds a.0, aes_lawful r.chk.words r.chk.rounds a.1)
+    let a = and_true (round_count r.keys.enc.rounds) (round_count r.keys.chk.rounds) h in
+    (aes_lawful r.keys.enc.words r.keys.enc.rounds a.0, aes_lawful r.keys.chk.words r.keys.chk.rounds a.1)
 
 -- ---- the writer
 

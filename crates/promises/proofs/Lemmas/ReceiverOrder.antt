@@ -97,7 +97,7 @@ either_way d i j x y c o hi hj r hx hy =
 -- what a caller has after a block that was taken
 abbrev pub kept_after : Holding → List ℕ → Holding
 kept_after x b = record {
-  receiver = record { enc = x.receiver.enc; chk = x.receiver.chk; receipt = counted_with x.receiver.receipt (head_of_lem b).len };
+  receiver = record { keys = x.receiver.keys; receipt = counted_with x.receiver.receipt (head_of_lem b).len };
   store = stored (receiver_keys x.receiver).enc b x.store;
   map = bit_put x.map (head_of_lem b).number;
 }

@@ -20,7 +20,7 @@ use Rattle.image_reasons.specs.declared.Reason.{Reason}
 use Rattle.image_reasons.specs.declared.Reason.TheVariants.{AfterLast, CheckWrong, Count, Number, OtherCount, OtherRelease, Length, Reserved, FillNotZero}
 use Rattle.image_spec.specs.Sealed.{checks, fill_zero}
 use Rattle.image_spec.specs.Judge.{Keys}
-use Rattle.image_spec.specs.KeyPair.{both_taken}
+use Rattle.image_spec.specs.KeyPair.{both_taken, pair_of}
 use Rattle.image_spec.specs.Sealed.{is_block}
 use Rattle.image_receiver_map.specs.Map.{map_size, bit, bit_at, bit_put, cleared}
 use Rattle.image_receiver_map.proofs.Laws.{bit_most}
@@ -381,14 +381,14 @@ module _ (ekey ckey : List ℕ) (count release : ℕ) (store map : List ℕ) whe
       → (both_taken (schedule_of s_box ekey) (schedule_of s_box ckey) ≡ true → count_fits_of count ≡ false → P (begun_not (BeginCount count), map))
       → (both_taken (schedule_of s_box ekey) (schedule_of s_box ckey) ≡ true → count_fits_of count ≡ true → room_for count (length store) (length map) ≡ false → P (begun_not BeginRoom, map))
       → (both_taken (schedule_of s_box ekey) (schedule_of s_box ckey) ≡ true → count_fits_of count ≡ true → room_for count (length store) (length map) ≡ true
-      → P (begun_with Begun (schedule_of s_box ekey).schedule (schedule_of s_box ckey).schedule count release, cleared (map_size count) map))
+      → P (begun_with Begun (pair_of (schedule_of s_box ekey) (schedule_of s_box ckey)) count release, cleared (map_size count) map))
       → P (begin_of ekey ckey count release store map)
   unfolding begin_of
   by_begin P p1 p2 p3 p4 = go (both_taken (schedule_of s_box ekey) (schedule_of s_box ckey)) (count_fits_of count) (room_for count (length store) (length map)) refl refl refl
     where
       go : (a c d : Bool) → both_taken (schedule_of s_box ekey) (schedule_of s_box ckey) ≡ a → count_fits_of count ≡ c → room_for count (length store) (length map) ≡ d
           → P (cond (not a) (begun_not BeginKey, map) (cond (not c) (begun_not (BeginCount count), map) (cond (not d) (begun_not BeginRoom, map)
-          (begun_with Begun (schedule_of s_box ekey).schedule (schedule_of s_box ckey).schedule count release, cleared (map_size count) map))))
+          (begun_with Begun (pair_of (schedule_of s_box ekey) (schedule_of s_box ckey)) count release, cleared (map_size count) map))))
       go false c d e f g = p1 e
       go true false d e f g = p2 e f
       go true true false e f g = p3 e f g
@@ -407,7 +407,7 @@ module _ (ekey ckey : List ℕ) (count release : ℕ) (store map : List ℕ) whe
 
   -- where all holds that it asks
   pub begin_done : Beginning ekey ckey count (length store) (length map)
-      → begin_of ekey ckey count release store map ≡ (begun_with Begun (schedule_of s_box ekey).schedule (schedule_of s_box ckey).schedule count release, cleared (map_size count) map)
+      → begin_of ekey ckey count release store map ≡ (begun_with Begun (pair_of (schedule_of s_box ekey) (schedule_of s_box ckey)) count release, cleared (map_size count) map)
   unfolding begin_of
   begin_done x =
       rw (taken_both (schedule_of s_box ekey) (schedule_of s_box ckey) x.ekey_taken x.ckey_taken, fits_count count x.count_low x.count_high, roomy_right count (length store) (length map) x.roomy)
@@ -425,14 +425,12 @@ module _ (ekey ckey : List ℕ) (count release : ℕ) (store map : List ℕ) whe
   pub begin_keeps : (begin_number (begin_of ekey ckey count release store map).0.answer ≡ 0 → ⊥)
       → ((begin_of ekey ckey count release store map).1 ≡ map)
       × ((begin_of ekey ckey count release store map).0.receiver ≡ record {
-        enc = record { words = replicate 60 0; rounds = 0 };
-        chk = record { words = replicate 60 0; rounds = 0 };
+        keys = record { enc = record { words = replicate 60 0; rounds = 0 }; chk = record { words = replicate 60 0; rounds = 0 } };
         receipt = record { count = 0; release = 0; held = 0; bytes = 0 };
       })
   begin_keeps =
       by_begin (λ (x : ReceiveStarted × List ℕ). (begin_number x.0.answer ≡ 0 → ⊥) → (x.1 ≡ map) × (x.0.receiver ≡ record {
-        enc = record { words = replicate 60 0; rounds = 0 };
-        chk = record { words = replicate 60 0; rounds = 0 };
+        keys = record { enc = record { words = replicate 60 0; rounds = 0 }; chk = record { words = replicate 60 0; rounds = 0 } };
         receipt = record { count = 0; release = 0; held = 0; bytes = 0 };
       }))
       (λ e n. (refl, refl)) (λ e f n. (refl, refl)) (λ e f g n. (refl, refl)) (λ e f g n. absurd (n refl))

@@ -8,7 +8,7 @@ use lib.ListN.{length, drop, replicate}
 use lib.Seq.{set_out}
 use Rattle.image_layout.specs.Layout.{head_of_lem}
 use Rattle.image_progress.specs.Progress.{completion_number}
-use Rattle.image_spec.specs.KeyPair.{keys_under}
+use Rattle.image_spec.specs.KeyPair.{pair_keys}
 use Rattle.image_receiver_map.specs.Map.{bit_put, cleared}
 use Rattle.image_receiver_answer.specs.Answers.{receive_number, begin_number, room_for, first_told, header_tests}
 use Rattle.image_receiver_answer.specs.declared.ReceiveAnswer.{ReceiveAnswer}
@@ -130,32 +130,32 @@ pub receive_block_asks_nothing : (κs : _) (a : _) → receive_block.Asked κs a
 receive_block_asks_nothing κs a = tt
 
 pub receive_block_determined : (κs : _) (a : _) (r r' : _) (s s' : _) → receive_block.Post κs a r s → receive_block.Post κs a r' s'
-    → (r ≡ r') × (s.1.1.1.1.1.0.now ≡ s'.1.1.1.1.1.0.now) × (s.1.1.1.1.1.1.0.now ≡ s'.1.1.1.1.1.1.0.now)
+    → (r ≡ r') × (s.1.1.1.0.now ≡ s'.1.1.1.0.now) × (s.1.1.1.1.0.now ≡ s'.1.1.1.1.0.now)
 receive_block_determined κs a r r' s s' p q =
     let e = p ∙ sym q in
     (ap (λ (x : Three). x.0) e, ap (λ (x : Three). x.1) e, ap (λ (x : Three). x.2) e)
 
 -- the receipt that came is handed back, and store and map stay
 pub receive_block_refused_keeps : (κs : _) (a : _) (r : _) (s : _) → receive_block.Post κs a r s → (receive_number r.answer ≡ 0 → ⊥)
-    → (r.receipt ≡ a.1.1.1.0) × (s.1.1.1.1.1.0.now ≡ a.1.1.1.1.1.0.now) × (s.1.1.1.1.1.1.0.now ≡ a.1.1.1.1.1.1.0.now)
+    → (r.receipt ≡ a.1.0) × (s.1.1.1.0.now ≡ a.1.1.1.0.now) × (s.1.1.1.1.0.now ≡ a.1.1.1.1.0.now)
 receive_block_refused_keeps κs a r s p n =
-    let k = keys_under a.0.now a.1.0.now a.1.1.0 in
-    let b = a.1.1.1.1.0.now in
-    let store = a.1.1.1.1.1.0.now in
-    let map = a.1.1.1.1.1.1.0.now in
-    let q : r.answer ≡ receive_answer k a.1.1.1.0 b store map = ap (λ (x : Three). x.0.answer) p ∙ leaves_answer k a.1.1.1.0 b store map in
-    let e = p ∙ refused_leaves_all k a.1.1.1.0 b store map (λ z. n (ap receive_number q ∙ z)) in
+    let k = pair_keys a.0.now in
+    let b = a.1.1.0.now in
+    let store = a.1.1.1.0.now in
+    let map = a.1.1.1.1.0.now in
+    let q : r.answer ≡ receive_answer k a.1.0 b store map = ap (λ (x : Three). x.0.answer) p ∙ leaves_answer k a.1.0 b store map in
+    let e = p ∙ refused_leaves_all k a.1.0 b store map (λ z. n (ap receive_number q ∙ z)) in
     (ap (λ (x : Three). x.0.receipt) e, ap (λ (x : Three). x.1) e, ap (λ (x : Three). x.2) e)
 
 pub receive_block_as_told : (κs : _) (a : _) (r : _) (s : _) → receive_block.Post κs a r s
-    → ReceiveSays (keys_under a.0.now a.1.0.now a.1.1.0) a.1.1.1.0 a.1.1.1.1.0.now a.1.1.1.1.1.0.now a.1.1.1.1.1.1.0.now r.answer
+    → ReceiveSays (pair_keys a.0.now) a.1.0 a.1.1.0.now a.1.1.1.0.now a.1.1.1.1.0.now r.answer
 receive_block_as_told κs a r s p =
-    let k = keys_under a.0.now a.1.0.now a.1.1.0 in
-    let b = a.1.1.1.1.0.now in
-    let store = a.1.1.1.1.1.0.now in
-    let map = a.1.1.1.1.1.1.0.now in
-    let q : r.answer ≡ receive_answer k a.1.1.1.0 b store map = ap (λ (x : Three). x.0.answer) p ∙ leaves_answer k a.1.1.1.0 b store map in
-    subst (ReceiveSays k a.1.1.1.0 b store map) (sym q) (receive_answer_as_told k a.1.1.1.0 b store map)
+    let k = pair_keys a.0.now in
+    let b = a.1.1.0.now in
+    let store = a.1.1.1.0.now in
+    let map = a.1.1.1.1.0.now in
+    let q : r.answer ≡ receive_answer k a.1.0 b store map = ap (λ (x : Three). x.0.answer) p ∙ leaves_answer k a.1.0 b store map in
+    subst (ReceiveSays k a.1.0 b store map) (sym q) (receive_answer_as_told k a.1.0 b store map)
 
 pub receive_start_asks_nothing : (κs : _) (a : _) → receive_start.Asked κs a
 receive_start_asks_nothing κs a = tt
@@ -170,8 +170,7 @@ receive_start_determined κs a r r' s s' p q =
 pub receive_start_refused_keeps : (κs : _) (a : _) (r : _) (s : _) → receive_start.Post κs a r s → (begin_number r.answer ≡ 0 → ⊥)
     → (s.1.1.1.1.1.0.now ≡ a.1.1.1.1.1.0.now)
     × (r.receiver ≡ record {
-      enc = record { words = replicate 60 0; rounds = 0 };
-      chk = record { words = replicate 60 0; rounds = 0 };
+      keys = record { enc = record { words = replicate 60 0; rounds = 0 }; chk = record { words = replicate 60 0; rounds = 0 } };
       receipt = record { count = 0; release = 0; held = 0; bytes = 0 };
     })
 receive_start_refused_keeps κs a r s p n =

@@ -109,8 +109,7 @@ begin_leaves ekey ckey count release store map g =
 pub begin_refusal_keeps : (ekey ckey : List ℕ) (count release : ℕ) (store map : List ℕ) → (begin_number (begin_of ekey ckey count release store map).0.answer ≡ 0 → ⊥)
     → ((begin_of ekey ckey count release store map).1 ≡ map)
     × ((begin_of ekey ckey count release store map).0.receiver ≡ record {
-      enc = record { words = replicate 60 0; rounds = 0 };
-      chk = record { words = replicate 60 0; rounds = 0 };
+      keys = record { enc = record { words = replicate 60 0; rounds = 0 }; chk = record { words = replicate 60 0; rounds = 0 } };
       receipt = record { count = 0; release = 0; held = 0; bytes = 0 };
     })
 begin_refusal_keeps ekey ckey count release store map n = told.begin_keeps ekey ckey count release store map n
