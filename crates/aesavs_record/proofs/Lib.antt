@@ -1,3 +1,2 @@
-mod Laws
 pub mod Pins
 pub mod Told

@@ -6,6 +6,7 @@ use Prim.Native.Nat.{ℕ, ◌%◌, ◌<◌}
 use native.Mathlib.Omega.{arith}
 use borrow.Author.Tests.{eqb-true, eqb-false, eq-eqb, ne_eqb}
 use lib.Dec.{eqb}
+use Rattle.std.specs.Prelude.{None, Some}
 use Rattle.aesavs_line.specs.declared.Run.{Run}
 use Rattle.aesavs_line.specs.declared.Run.TheVariants.{Known, Monte}
 use Rattle.aesavs_line.specs.declared.Way.TheVariants.{Encrypting, Decrypting}
@@ -14,7 +15,7 @@ use Rattle.aesavs_record.specs.Records.{role_of, between, follows, size_fits_of,
 use Rattle.aesavs_record.specs.declared.Role.{Role}
 use Rattle.aesavs_record.specs.declared.Role.TheVariants.{KeyOf, IvOf, FirstText, SecondText}
 use Rattle.aesavs_record.specs.declared.Stage.TheVariants.{AtStart, AtMark, AtRecord, AtKey, AtIv, AtFirst, AtSecond}
-use Rattle.aesavs_record.specs.declared.Kind.TheVariants.{Unknown, Ecb, Cbc}
+use Rattle.aesavs_record.specs.declared.Kind.TheVariants.{Ecb, Cbc}
 
 -- PLAINTEXT then CIPHERTEXT under [ENCRYPT], CIPHERTEXT then PLAINTEXT under [DECRYPT]
 pub the_two_texts : (role_of Encrypting Plaintext ≡ FirstText) × (role_of Encrypting Ciphertext ≡ SecondText)
@@ -70,7 +71,7 @@ a_size_fits Monte FirstText n text h = rw h
 a_size_fits r SecondText n text h = eq-eqb n text h
 
 -- records of known answers stand alone; in a Monte Carlo run a record has an IV or none as its section's first has, told at its first text
-pub the_kinds : (f : Role) (ch : Bool) → (kind_fits Monte FirstText Ecb ch ≡ same_kind Ecb ch) × (kind_fits Monte FirstText Cbc ch ≡ same_kind Cbc ch)
-    × (same_kind Ecb true ≡ false) × (same_kind Ecb false ≡ true) × (same_kind Cbc true ≡ true) × (same_kind Cbc false ≡ false)
-    × (kind_fits Monte FirstText Unknown ch ≡ true) × (kind_fits Known f Ecb ch ≡ true) × (kind_fits Known f Cbc ch ≡ true)
+pub the_kinds : (f : Role) (ch : Bool) → (kind_fits Monte FirstText (Some Ecb) ch ≡ same_kind (Some Ecb) ch) × (kind_fits Monte FirstText (Some Cbc) ch ≡ same_kind (Some Cbc) ch)
+    × (same_kind (Some Ecb) true ≡ false) × (same_kind (Some Ecb) false ≡ true) × (same_kind (Some Cbc) true ≡ true) × (same_kind (Some Cbc) false ≡ false)
+    × (kind_fits Monte FirstText None ch ≡ true) × (kind_fits Known f (Some Ecb) ch ≡ true) × (kind_fits Known f (Some Cbc) ch ≡ true)
 the_kinds f ch = (refl, refl, refl, refl, refl, refl, refl, refl, refl)

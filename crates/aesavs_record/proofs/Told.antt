@@ -2,22 +2,20 @@
 use mathlib.Core.Path.{◌≡◌, refl, ap}
 use mathlib.Core.Bool.{Bool, true, false, not, cond}
 use Prim.Native.Nat.{ℕ}
+use Rattle.std.specs.Prelude.{Result, Ok, Err}
 use Rattle.aesavs_line.specs.declared.Line.{Line}
 use Rattle.aesavs_line.specs.declared.Line.TheVariants.{Skipped, Opens, Marks, Counts, Value, Outside}
-use Rattle.aesavs_record.specs.Records.{role_of, begins, between, passed, next_line, goes, refused, marked, took, open_step, mark_step, count_at, takes, value_step, line_step, step_of, end_of}
+use Rattle.aesavs_record.specs.Records.{role_of, begins, between, passed, next_line, refused, marked, took, open_step, mark_step, count_at, takes, value_step, line_step, step_of, end_of, Stepped}
 use Rattle.aesavs_record.specs.declared.Role.{Role}
 use Rattle.aesavs_record.specs.declared.Role.TheVariants.{KeyOf, IvOf, FirstText, SecondText}
 use Rattle.aesavs_record.specs.declared.Stage.{Stage}
 use Rattle.aesavs_record.specs.declared.Stage.TheVariants.{AtStart, AtMark, AtRecord, AtKey, AtIv, AtFirst, AtSecond}
-use Rattle.aesavs_record.specs.declared.Deed.{Deed}
-use Rattle.aesavs_record.specs.declared.Deed.TheVariants.{Goes, Answers, Refuses}
+use Rattle.aesavs_record.specs.declared.Refused.{Refused}
 use Rattle.aesavs_record.specs.declared.Standing.{Standing}
-use Rattle.aesavs_record.specs.declared.Stepped.{Stepped}
 
-abbrev pub refusing : Deed → Bool
-refusing Goes = false
-refusing Answers = false
-refusing Refuses = true
+abbrev pub refusing : {T : Type 0} → Result T Refused → Bool
+refusing (Ok x) = false
+refusing (Err e) = true
 
 -- a COUNT may come behind a mark or a record
 abbrev pub counting : Stage → Bool
@@ -103,52 +101,67 @@ module _ (s : Standing) (n : ℕ) where
       go AtSecond e = later_told (ap begins e) l
 
 -- the end is refused exactly where line 1 is missing or a record is open
-pub end_refused_exactly : (s : Standing) → refusing (end_of s).deed ≡ not (between s.stage)
+pub end_refused_exactly : (s : Standing) → refusing (end_of s) ≡ not (between s.stage)
 unfolding end_of
 end_refused_exactly s = go (between s.stage)
   where
-    go : (b : Bool) → refusing (cond b (goes s) (refused (passed s))).deed ≡ not b
+    go : (b : Bool) → refusing (cond b (Ok (tt {0})) (Err (record { line = next_line s.lines }))) ≡ not b
     go true = refl
     go false = refl
 
--- ---- every line is counted, and a refusal holds its number
+-- ---- every line is counted, and a refusal has its number
 
-took_lines : (s : Standing) (f : Role) (n : ℕ) → (took s f n).standing.lines ≡ s.lines
-took_lines s KeyOf n = refl
-took_lines s IvOf n = refl
-took_lines s FirstText n = refl
-took_lines s SecondText n = refl
+abbrev pub Numbered : {T : Type 0} → ℕ → Result T Refused → Type 0
+Numbered m (Ok x) = Unit {0}
+Numbered m (Err e) = e.line ≡ m
 
-open_lines : (s : Standing) (l : Line) → (open_step s l).standing.lines ≡ s.lines
-open_lines s Skipped = refl
-open_lines s (Opens r) = refl
-open_lines s (Marks w) = refl
-open_lines s (Counts c) = refl
-open_lines s (Value f) = refl
-open_lines s Outside = refl
+abbrev pub Counted : ℕ → Stepped → Type 0
+Counted m x = (x.standing.lines ≡ m) × Numbered m x.deed
 
-count_lines : (g : Stage) (s : Standing) (c : ℕ) → (count_at g s c).standing.lines ≡ s.lines
-count_lines AtStart s c = refl
-count_lines AtMark s c = refl
-count_lines AtRecord s c = refl
-count_lines AtKey s c = refl
-count_lines AtIv s c = refl
-count_lines AtFirst s c = refl
-count_lines AtSecond s c = refl
+took_lines : (s : Standing) (f : Role) (n : ℕ) → Counted s.lines (took s f n)
+took_lines s KeyOf n = (refl, tt)
+took_lines s IvOf n = (refl, tt)
+took_lines s FirstText n = (refl, tt)
+took_lines s SecondText n = (refl, tt)
 
-either : (b : Bool) (x y : Stepped) (m : ℕ) → x.standing.lines ≡ m → y.standing.lines ≡ m → (cond b x y).standing.lines ≡ m
+open_lines : (s : Standing) (l : Line) → Counted s.lines (open_step s l)
+open_lines s Skipped = (refl, refl)
+open_lines s (Opens r) = (refl, tt)
+open_lines s (Marks w) = (refl, refl)
+open_lines s (Counts c) = (refl, refl)
+open_lines s (Value f) = (refl, refl)
+open_lines s Outside = (refl, refl)
+
+count_lines : (g : Stage) (s : Standing) (c : ℕ) → Counted s.lines (count_at g s c)
+count_lines AtStart s c = (refl, refl)
+count_lines AtMark s c = (refl, refl)
+count_lines AtRecord s c = (refl, tt)
+count_lines AtKey s c = (refl, refl)
+count_lines AtIv s c = (refl, refl)
+count_lines AtFirst s c = (refl, refl)
+count_lines AtSecond s c = (refl, refl)
+
+either : (b : Bool) (x y : Stepped) (m : ℕ) → Counted m x → Counted m y → Counted m (cond b x y)
 either true x y m p q = p
 either false x y m p q = q
 
-line_lines : (s : Standing) (l : Line) (n : ℕ) → (line_step s l n).standing.lines ≡ s.lines
+line_lines : (s : Standing) (l : Line) (n : ℕ) → Counted s.lines (line_step s l n)
 unfolding mark_step value_step
-line_lines s Skipped n = refl
-line_lines s (Opens r) n = refl
-line_lines s (Marks w) n = either (between s.stage) (marked s w) (refused s) s.lines refl refl
+line_lines s Skipped n = (refl, tt)
+line_lines s (Opens r) n = (refl, refl)
+line_lines s (Marks w) n = either (between s.stage) (marked s w) (refused s) s.lines (refl, tt) (refl, refl)
 line_lines s (Counts c) n = count_lines s.stage s c
-line_lines s (Value f) n = either (takes s (role_of s.section.way f) n) (took s (role_of s.section.way f) n) (refused s) s.lines (took_lines s (role_of s.section.way f) n) refl
-line_lines s Outside n = refl
+line_lines s (Value f) n = either (takes s (role_of s.section.way f) n) (took s (role_of s.section.way f) n) (refused s) s.lines (took_lines s (role_of s.section.way f) n) (refl, refl)
+line_lines s Outside n = (refl, refl)
 
-pub lines_are_counted : (s : Standing) (l : Line) (n : ℕ) → (step_of s l n).standing.lines ≡ next_line s.lines
+pub lines_are_counted : (s : Standing) (l : Line) (n : ℕ) → Counted (next_line s.lines) (step_of s l n)
 unfolding step_of
 lines_are_counted s l n = either (begins s.stage) (open_step (passed s) l) (line_step (passed s) l n) (next_line s.lines) (open_lines (passed s) l) (line_lines (passed s) l n)
+
+pub end_is_numbered : (s : Standing) → Numbered (next_line s.lines) (end_of s)
+unfolding end_of
+end_is_numbered s = go (between s.stage)
+  where
+    go : (b : Bool) → Numbered (next_line s.lines) (cond b (Ok (tt {0})) (Err (record { line = next_line s.lines })))
+    go true = tt
+    go false = refl

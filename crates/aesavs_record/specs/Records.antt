@@ -1,5 +1,5 @@
 -- How lines make records (docs/REPLAY.md): which line may come next, and what it changes. Assumes nothing: these are definitions.
-use Rattle.std.specs.Prelude.{ℕ, ◌+◌, ◌%◌, Bool, true, false, not, cond, ◌&&◌, ◌||◌, eqb, ltb}
+use Rattle.std.specs.Prelude.{ℕ, ◌+◌, ◌%◌, Bool, true, false, not, cond, ◌&&◌, ◌||◌, Option, Some, None, Result, Ok, Err, eqb, ltb}
 use Rattle.aesavs_line.specs.declared.Run.{Run}
 use Rattle.aesavs_line.specs.declared.Run.TheVariants.{Known, Monte}
 use Rattle.aesavs_line.specs.declared.Way.{Way}
@@ -13,11 +13,10 @@ use Rattle.aesavs_record.specs.declared.Role.TheVariants.{KeyOf, IvOf, FirstText
 use Rattle.aesavs_record.specs.declared.Stage.{Stage}
 use Rattle.aesavs_record.specs.declared.Stage.TheVariants.{AtStart, AtMark, AtRecord, AtKey, AtIv, AtFirst, AtSecond}
 use Rattle.aesavs_record.specs.declared.Kind.{Kind}
-use Rattle.aesavs_record.specs.declared.Kind.TheVariants.{Unknown, Ecb, Cbc}
-use Rattle.aesavs_record.specs.declared.Deed.TheVariants.{Goes, Answers, Refuses}
+use Rattle.aesavs_record.specs.declared.Kind.TheVariants.{Ecb, Cbc}
 use Rattle.aesavs_record.specs.declared.Record.{Record}
 use Rattle.aesavs_record.specs.declared.Standing.{Standing}
-use Rattle.aesavs_record.specs.declared.Stepped.{Stepped}
+use Rattle.aesavs_record.specs.declared.Refused.{Refused}
 
 -- encrypting, the plaintext comes first and the ciphertext second; decrypting, the other way round
 abbrev pub role_of : Way → Field → Role
@@ -105,19 +104,19 @@ size_fits_of r FirstText n text = text_fits r n
 size_fits_of r SecondText n text = eqb n text
 
 -- whether a record has an IV or none as its section's first has
-abbrev pub same_kind : Kind → Bool → Bool
-same_kind Unknown chained = true
-same_kind Ecb chained = not chained
-same_kind Cbc chained = chained
+abbrev pub same_kind : Option Kind → Bool → Bool
+same_kind None chained = true
+same_kind (Some Ecb) chained = not chained
+same_kind (Some Cbc) chained = chained
 
 -- asked only in a Monte Carlo run, and only at the first text
-abbrev pub monte_fits : Role → Kind → Bool → Bool
+abbrev pub monte_fits : Role → Option Kind → Bool → Bool
 monte_fits KeyOf k chained = true
 monte_fits IvOf k chained = true
 monte_fits FirstText k chained = same_kind k chained
 monte_fits SecondText k chained = true
 
-abbrev pub kind_fits : Run → Role → Kind → Bool → Bool
+abbrev pub kind_fits : Run → Role → Option Kind → Bool → Bool
 kind_fits Known f k chained = true
 kind_fits Monte f k chained = monte_fits f k chained
 
@@ -129,7 +128,7 @@ start_of = record {
   lines = 0;
   run = Known;
   stage = AtStart;
-  section = record { way = Encrypting; kind = Unknown };
+  section = record { way = Encrypting; kind = None };
   held = record { count = 0; key = 0; text = 0; chained = false };
 }
 
@@ -140,12 +139,17 @@ next_line n = cond (ltb n 18446744073709551615) (n + 1) n
 abbrev pub passed : Standing → Standing
 passed s = record { lines = next_line s.lines; run = s.run; stage = s.stage; section = s.section; held = s.held }
 
+-- what a line leaves, and its answer: the record that it completes, if it does, or a refusal
+pub record Stepped : Type 0 where
+  pub standing : Standing
+  pub deed : Result (Option Record) Refused
+
 -- a line outside the form: 22 with the number of lines read
 abbrev pub refused : Standing → Stepped
-refused s = record { standing = s; deed = Refuses }
+refused s = record { standing = s; deed = Err (record { line = s.lines }) }
 
 abbrev pub goes : Standing → Stepped
-goes s = record { standing = s; deed = Goes }
+goes s = record { standing = s; deed = Ok None }
 
 -- the run is told
 abbrev pub opened : Standing → Run → Stepped
@@ -153,7 +157,7 @@ opened s r = goes (record { lines = s.lines; run = r; stage = AtMark; section = 
 
 -- a new section, of which no record is known
 abbrev pub marked : Standing → Way → Stepped
-marked s w = goes (record { lines = s.lines; run = s.run; stage = AtRecord; section = record { way = w; kind = Unknown }; held = s.held })
+marked s w = goes (record { lines = s.lines; run = s.run; stage = AtRecord; section = record { way = w; kind = None }; held = s.held })
 
 -- the record as it now is, and what may come after it
 abbrev pub moved : Standing → Stage → Record → Stepped
@@ -171,8 +175,8 @@ kind_of false = Ecb
 -- the second text completes the record
 abbrev pub answered : Standing → Stepped
 answered s = record {
-  standing = record { lines = s.lines; run = s.run; stage = AtRecord; section = record { way = s.section.way; kind = kind_of s.held.chained }; held = s.held };
-  deed = Answers;
+  standing = record { lines = s.lines; run = s.run; stage = AtRecord; section = record { way = s.section.way; kind = Some (kind_of s.held.chained) }; held = s.held };
+  deed = Ok (Some s.held);
 }
 
 -- a field that was taken
@@ -229,5 +233,5 @@ unfoldable pub step_of : Standing → Line → ℕ → Stepped
 step_of s l n = cond (begins s.stage) (open_step (passed s) l) (line_step (passed s) l n)
 
 -- the end of the input: inside a record, or before line 1, the line that is missing is refused
-unfoldable pub end_of : Standing → Stepped
-end_of s = cond (between s.stage) (goes s) (refused (passed s))
+unfoldable pub end_of : Standing → Result Unit Refused
+end_of s = cond (between s.stage) (Ok tt) (Err (record { line = (passed s).lines }))

@@ -1,157 +1,68 @@
-// The state after a line, whatever the line was.
+// The state after a line that is taken or refused.
 ghost use Rattle.std.specs.Prelude.{◌≡◌};
 ghost use Rattle.aesavs_record.specs.Records as spec;
 
-use crate::{Deed, Kind, Record, Role, Section, Stage, Standing, Stepped};
-use aesavs_line::{Run, Way};
+use crate::{Record, Refused, Role, Section, Stage, Standing, role_of};
+use aesavs_line::{Field, Way};
 
-// One more line is read. No input has as many lines as the bound.
-pub fn passed(s: Standing) -> Standing
-    ensures { result ≡ spec.passed s }
-{
-    let mut t = s;
-    if t.lines < 18446744073709551615 {
-        t.lines = t.lines + 1;
+impl Standing {
+    // The line that is read may not come.
+    pub(crate) fn refusal(&self) -> Refused
+        ensures { result.line ≡ self.now.lines }
+    {
+        Refused { line: self.lines }
     }
-    t
-}
 
-pub fn goes(standing: Standing) -> Stepped
-    ensures { result ≡ spec.goes standing }
-{
-    Stepped {
-        standing,
-        deed: Deed::Goes,
+    // A new section, of which no record is known.
+    pub(crate) fn begin_section(&mut self, way: Way)
+        ensures { self.new ≡ (spec.marked self.old way).standing }
+    {
+        self.section = Section { way, kind: None };
+        self.stage = Stage::AtRecord;
     }
-}
 
-pub fn refused(standing: Standing) -> Stepped
-    ensures { result ≡ spec.refused standing }
-{
-    Stepped {
-        standing,
-        deed: Deed::Refuses,
+    // A new record, without IV so far.
+    pub(crate) fn begin_record(&mut self, count: u64)
+        ensures { self.new ≡ (spec.counted self.old count).standing }
+    {
+        self.held = Record {
+            count,
+            key: 0,
+            text: 0,
+            chained: false,
+        };
+        self.stage = Stage::AtKey;
     }
-}
 
-pub fn opened(s: Standing, run: Run) -> Stepped
-    ensures { result ≡ spec.opened s run }
-{
-    let section = s.section;
-    let held = s.held;
-    Stepped {
-        standing: Standing {
-            lines: s.lines,
-            run,
-            stage: Stage::AtMark,
-            section,
-            held,
-        },
-        deed: Deed::Goes,
-    }
-}
-
-// A new section, of which no record is known.
-pub fn marked(s: Standing, way: Way) -> Stepped
-    ensures { result ≡ spec.marked s way }
-{
-    let run = s.run;
-    let held = s.held;
-    Stepped {
-        standing: Standing {
-            lines: s.lines,
-            run,
-            stage: Stage::AtRecord,
-            section: Section {
-                way,
-                kind: Kind::Unknown,
-            },
-            held,
-        },
-        deed: Deed::Goes,
-    }
-}
-
-// A new record, without IV so far.
-pub fn counted(s: Standing, count: u64) -> Stepped
-    ensures { result ≡ spec.counted s count }
-{
-    let held = Record {
-        count,
-        key: 0,
-        text: 0,
-        chained: false,
-    };
-    moved(s, Stage::AtKey, held)
-}
-
-// The same record with one more field.
-pub fn took(s: Standing, role: Role, size: usize) -> Stepped
-    ensures { result ≡ spec.took s role size }
-{
-    let mut held = s.held;
-    match role {
-        Role::KeyOf => {
-            held.key = size;
-            moved(s, Stage::AtIv, held)
+    // One more field of the record, if it may come. The second text completes the record, and its section has the kind of its first.
+    #[tactic(auto, unfolding(crate::specs::Records::value_step))]
+    pub(crate) fn take(&mut self, field: Field, size: usize) -> Result<Option<Record>, Refused>
+        ensures standing { self.new ≡ (spec.value_step self.old field size).standing }
+        ensures answer { result ≡ (spec.value_step self.old field size).deed }
+    {
+        let role = role_of(self.section.way, field);
+        if !self.takes(role, size) {
+            return Err(self.refusal());
         }
-        Role::IvOf => {
-            held.chained = true;
-            moved(s, Stage::AtFirst, held)
+        match role {
+            Role::KeyOf => {
+                self.held.key = size;
+                self.stage = Stage::AtIv;
+            }
+            Role::IvOf => {
+                self.held.chained = true;
+                self.stage = Stage::AtFirst;
+            }
+            Role::FirstText => {
+                self.held.text = size;
+                self.stage = Stage::AtSecond;
+            }
+            Role::SecondText => {
+                self.section.kind = Some(self.held.kind());
+                self.stage = Stage::AtRecord;
+                return Ok(Some(self.held));
+            }
         }
-        Role::FirstText => {
-            held.text = size;
-            moved(s, Stage::AtSecond, held)
-        }
-        Role::SecondText => answered(s),
+        Ok(None)
     }
-}
-
-fn moved(s: Standing, stage: Stage, held: Record) -> Stepped
-    ensures { result ≡ spec.moved s stage held }
-{
-    let run = s.run;
-    let section = s.section;
-    Stepped {
-        standing: Standing {
-            lines: s.lines,
-            run,
-            stage,
-            section,
-            held,
-        },
-        deed: Deed::Goes,
-    }
-}
-
-// The record is complete, and its section has the kind of its first.
-fn answered(s: Standing) -> Stepped
-    ensures { result ≡ spec.answered s }
-{
-    let run = s.run;
-    let section = s.section;
-    let way = section.way;
-    let held = s.held;
-    Stepped {
-        standing: Standing {
-            lines: s.lines,
-            run,
-            stage: Stage::AtRecord,
-            section: Section {
-                way,
-                kind: kind_of(held.chained),
-            },
-            held,
-        },
-        deed: Deed::Answers,
-    }
-}
-
-fn kind_of(chained: bool) -> Kind
-    ensures { result ≡ spec.kind_of chained }
-{
-    if chained {
-        return Kind::Cbc;
-    }
-    Kind::Ecb
 }
