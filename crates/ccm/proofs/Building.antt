@@ -5,22 +5,17 @@ use mathlib.Core.List.{List, ◌++◌}
 use Prim.Native.Nat.{ℕ, ◌+◌, ◌-◌, ◌≤◌}
 use native.Mathlib.Omega.{arith}
 use borrow.Author.Tests.{le-leb}
-use lib.ListN.{length, take, drop, replicate, length-append, length-drop}
+use lib.ListN.{length, take, drop, length-append, length-drop}
 use lib.Seq.{length-take-le, take_all, take_at, drop-append-add, drop-drop}
 use Rattle.octets.specs.Octets.{pad_to, same, over}
 use Rattle.octets.specs.Blocks.{◌⊕◌, BlockCipher}
 use Rattle.octets_slice.specs.Slices.{copied}
-use Rattle.octets_slice.proofs.Laws.{copied_fits, copied_zeros}
+use Rattle.octets_slice.proofs.Laws.{copied_fits}
 use Rattle.ccm_spec.specs.Ccm.{counter}
-use Rattle.ccm_spec.proofs.Sums.{pad_to_full}
 use Rattle.ccm_stream.specs.Model.{streamed_into, streamed_over}
 use Rattle.ccm_chain.specs.Model.{mac_over, opened_mac_over}
 use Rattle.ccm.specs.Model.{sealed_over, body, right, verdict, opened_over}
 use Rattle.ccm_answer.specs.declared.CcmAnswer.TheVariants.{CcmDone, WrongTag}
-
--- the nonce by value
-pub thirteen_is : (n : List ℕ) → length n ≡ 13 → copied n 0 (replicate 13 0) ≡ n
-thirteen_is n e = copied_zeros 13 n (omega arith) ∙ pad_to_full 13 n (omega arith)
 
 stream_room : (c : BlockCipher) (ctr s out : List ℕ) → length s ≤ length out → streamed_over c ctr s out ≡ streamed_into c ctr s ++ drop (length s) out
 unfolding streamed_over

@@ -20,15 +20,12 @@ pub fn seal(key: &[u8], nonce: &[u8], ad: &[u8], message: &[u8], output: &mut [u
     ensures answer { result ≡ spec.seal_answer key.now nonce.now ad.now message.now output.old }
     ensures written { output.new ≡ spec.seal_output result key.now nonce.now ad.now message.now output.old }
 {
-    let made = KeySchedule::new(key);
-    let taken = made.answer;
-    let schedule = made.schedule;
-    let words = schedule.words;
+    let mut schedule = KeySchedule::none();
+    let taken = schedule.expand(key);
     let answer = judge_seal(taken, nonce.len(), ad.len(), message.len(), output.len());
-    let CcmAnswer::CcmDone = answer else {
-        return answer;
-    };
-    seal_into(&schedule, nonce, ad, message, output);
+    if let CcmAnswer::CcmDone = answer {
+        seal_into(&schedule, nonce, ad, message, output);
+    }
     answer
 }
 
@@ -38,36 +35,24 @@ pub fn open(key: &[u8], nonce: &[u8], ad: &[u8], sealed: &[u8], output: &mut [u8
     ensures answer { result ≡ spec.open_answer key.now nonce.now ad.now sealed.now output.old }
     ensures written { output.new ≡ spec.open_output result key.now nonce.now ad.now sealed.now output.old }
 {
-    let made = KeySchedule::new(key);
-    let taken = made.answer;
-    let schedule = made.schedule;
-    let words = schedule.words;
-    let answer = judge_open(taken, nonce.len(), ad.len(), sealed.len(), output.len());
-    let CcmAnswer::CcmDone = answer else {
-        return answer;
-    };
-    open_into(&schedule, nonce, ad, sealed, output)
+    let mut schedule = KeySchedule::none();
+    let taken = schedule.expand(key);
+    match judge_open(taken, nonce.len(), ad.len(), sealed.len(), output.len()) {
+        CcmAnswer::CcmDone => open_into(&schedule, nonce, ad, sealed, output),
+        refused => refused,
+    }
 }
 
 // Nothing is refused from here on.
-fn seal_into(
-    schedule: &KeySchedule,
-    nonce: &[u8],
-    ad: &[u8],
-    message: &[u8],
-    output: &mut [u8],
-)
+fn seal_into(schedule: &KeySchedule, nonce: &[u8], ad: &[u8], message: &[u8], output: &mut [u8])
     requires { (length nonce.now ≡ 13) × (length ad.now ≤ 64) × (length message.now + 8 ≤ length output.old) }
     ensures { output.new ≡ model.sealed_over (standard schedule.now.words schedule.now.rounds) nonce.now ad.now message.now output.old }
 {
     let n = thirteen(nonce);
     let ctr = flagged(1, n, 0);
-    let tag = xor(
-        mac(schedule, n, ad, message),
-        encrypt_block(schedule, ctr),
-    );
+    let tag = xor(mac(schedule, n, ad, message), encrypt_block(schedule, ctr));
     stream(schedule, ctr, message, output);
-    copy(&tag[0..8], output, message.len());
+    copy(&tag[..8], output, message.len());
 }
 
 // Nothing is written before the tag is known to be right: the code passes over the ciphertext twice and keeps the message nowhere else.
@@ -84,14 +69,15 @@ fn open_into(
 {
     let n = thirteen(nonce);
     let len = sealed.len() - 8;
-    let made = opened_mac(schedule, n, ad, &sealed[0..len]);
+    let made = opened_mac(schedule, n, ad, &sealed[..len]);
     let ctr = flagged(1, n, 0);
     let found = leading_sum(sealed, len, encrypt_block(schedule, ctr));
-    if !same_tag(made, found) {
-        return CcmAnswer::WrongTag;
+    if same_tag(made, found) {
+        stream(schedule, ctr, &sealed[..len], output);
+        CcmAnswer::CcmDone
+    } else {
+        CcmAnswer::WrongTag
     }
-    stream(schedule, ctr, &sealed[0..len], output);
-    CcmAnswer::CcmDone
 }
 
 // The nonce by value.
@@ -99,7 +85,7 @@ fn thirteen(nonce: &[u8]) -> [u8; 13]
     requires { length nonce.now ≡ 13 }
     ensures { result ≡ nonce.now }
 {
-    let mut n = [0u8; 13];
-    copy(nonce, &mut n, 0);
+    let mut n = [0; 13];
+    n.copy_from_slice(nonce);
     n
 }

@@ -45,7 +45,12 @@ pub fn judge_seal(key: KeyAnswer, nonce: usize, ad: usize, len: usize, room: usi
 pub fn judge_open(key: KeyAnswer, nonce: usize, ad: usize, len: usize, room: usize) -> CcmAnswer
     ensures { result ≡ ccm_ruled (key_number key) (sealed_in_profile nonce ad len) (len - 8) room CcmDone }
 {
-    judge(key, sealed_in_profile(nonce, ad, len), len.saturating_sub(8), room)
+    judge(
+        key,
+        sealed_in_profile(nonce, ad, len),
+        len.saturating_sub(8),
+        room,
+    )
 }
 
 // The tests of both calls in their order: the key, the lengths, the room for what is made of the message.

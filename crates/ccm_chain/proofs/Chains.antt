@@ -1,15 +1,15 @@
 -- The chain over what is joined, and over what zeros fill up. Assumes nothing.
 use mathlib.Core.Path.{◌≡◌, refl, sym, ap, ap₂, ◌∙◌}
-use mathlib.Core.List.{List, [], ◌∷◌, ◌++◌}
+use mathlib.Core.List.{List, ◌∷◌, ◌++◌, append_assoc}
 use Prim.Native.Nat.{ℕ, zero, suc, ◌+◌, ◌-◌, ◌*◌, ◌/◌, ◌≤◌}
 use native.Mathlib.Omega.{arith}
 use borrow.Author.Tests.{eq-eqb, ne_eqb}
-use lib.ListN.{length, set, take, drop, replicate, length-append, take-append-drop}
-use lib.Seq.{length-take-le, take_all, drop_at, take-append-add}
+use borrow.Rule.Slice.PartMut.{put_mid}
+use lib.ListN.{length, take, drop, replicate, length-append, take-append-drop}
+use lib.Seq.{length-take-le, drop_at, take-append-add}
 use Rattle.octets.specs.Octets.{pad_to}
 use Rattle.octets.specs.Blocks.{◌⊕◌, BlockCipher}
-use Rattle.octets_slice.specs.Slices.{copied}
-use Rattle.octets_slice.proofs.Laws.{copied_fits, drop_zeros}
+use Rattle.octets_slice.proofs.Laws.{drop_zeros}
 use Rattle.cmac_spec.specs.Cmac.{chained}
 use Rattle.cmac_spec.proofs.Chain.{chained_add, chained_front}
 use Rattle.modes_spec.specs.Pieces.{piece_count}
@@ -88,14 +88,14 @@ take_pad_to m n s l h =
     ∙ ap (s ++◌) (take_zeros (m - length s) (n - length s) (omega arith))
 
 module _ (a : List ℕ) (h : length a ≤ 64) where
-  pub data_made : (x y : ℕ) → copied a 2 (set (set (replicate 80 0) 0 x) 1 y) ≡ pad_to 80 ((x ∷ y ∷ []) ++ a)
+  pub data_made : (x y : List ℕ) (m : ℕ) → x ≡ half (length a) → y ≡ a → m ≡ length a → put_mid 2 m (x ++ drop 2 (replicate 80 0)) y ≡ pad_to 80 (half (length a) ++ a)
   unfolding pad_to
-  data_made x y =
-      let b = x ∷ y ∷ replicate 78 0 in
-      let e : 80 - length ((x ∷ y ∷ []) ++ a) ≡ 78 - length a = omega (arith, length-append (x ∷ y ∷ []) a) in
-      copied_fits a 2 b (omega arith)
-      ∙ ap₂ (λ (s t : List ℕ). ((x ∷ y ∷ []) ++ s) ++ t) (take_all (length a) a (omega arith)) (ap (λ (k : ℕ). drop k b) (let z : 2 + length a ≡ suc (suc (length a)) = omega arith in z) ∙ drop_zeros (length a) 78)
-      ∙ ap (λ (k : ℕ). ((x ∷ y ∷ []) ++ a) ++ replicate k 0) (sym e)
+  data_made x y m ex ey em =
+      let n = half (length a) in
+      let e : 78 - m ≡ 80 - length (n ++ a) = omega (arith, length-append n a) in
+      ap₂ (λ (s t : List ℕ). put_mid 2 m (s ++ drop 2 (replicate 80 0)) t) ex ey
+      ∙ ap (λ (s : List ℕ). n ++ (a ++ s)) (drop_zeros m 78 ∙ ap (λ (k : ℕ). replicate k 0) e)
+      ∙ sym (append_assoc n a (replicate (80 - length (n ++ a)) 0))
 
   pub data_whole : (d : List ℕ) (m : ℕ) → d ≡ pad_to 80 (half (length a) ++ a) → m ≡ (length a + 17) / 16 * 16 → take m d ≡ whole (half (length a) ++ a)
   unfolding whole

@@ -22,27 +22,24 @@ use cmac_subkeys::piece_filled;
 pub fn mac(schedule: &KeySchedule, nonce: [u8; 13], ad: &[u8], message: &[u8]) -> [u8; 16]
     ensures { result ≡ mac_over (standard schedule.now.words schedule.now.rounds) nonce ad.now message.now }
 {
-    if ad.len() > 64 {
-        return [0u8; 16];
+    if ad.len() <= 64 {
+        let start = begun(schedule, nonce, ad, message.len());
+        through(schedule, start, message)
+    } else {
+        [0; 16]
     }
-    let start = begun(schedule, nonce, ad, message.len());
-    through(schedule, start, message)
 }
 
 // Of what a ciphertext opens to, which is kept nowhere.
-pub fn opened_mac(
-    schedule: &KeySchedule,
-    nonce: [u8; 13],
-    ad: &[u8],
-    input: &[u8],
-) -> [u8; 16]
+pub fn opened_mac(schedule: &KeySchedule, nonce: [u8; 13], ad: &[u8], input: &[u8]) -> [u8; 16]
     ensures { result ≡ opened_mac_over (standard schedule.now.words schedule.now.rounds) nonce ad.now input.now }
 {
-    if ad.len() > 64 {
-        return [0u8; 16];
+    if ad.len() <= 64 {
+        let start = begun(schedule, nonce, ad, input.len());
+        through_opened(schedule, flagged(1, nonce, 0), start, input)
+    } else {
+        [0; 16]
     }
-    let start = begun(schedule, nonce, ad, input.len());
-    through_opened(schedule, flagged(1, nonce, 0), start, input)
 }
 
 // The chain over a message, with zeros up to whole pieces.
@@ -52,19 +49,15 @@ fn through(schedule: &KeySchedule, chain: [u8; 16], message: &[u8]) -> [u8; 16]
     let value = chained(schedule, chain, message);
     let at = message.len() / 16 * 16;
     if at == message.len() {
-        return value;
+        value
+    } else {
+        let rest = piece_filled([0; 16], 0, &message[at..]);
+        chained(schedule, value, &rest)
     }
-    let rest = piece_filled([0u8; 16], 0, &message[at..]);
-    chained(schedule, value, &rest)
 }
 
 // The chain over what a ciphertext opens to, piece by piece.
-fn through_opened(
-    schedule: &KeySchedule,
-    ctr: [u8; 16],
-    chain: [u8; 16],
-    input: &[u8],
-) -> [u8; 16]
+fn through_opened(schedule: &KeySchedule, ctr: [u8; 16], chain: [u8; 16], input: &[u8]) -> [u8; 16]
     ensures { result ≡ cmac.chained (standard schedule.now.words schedule.now.rounds) chain (piece_count 16 input.now) (pieces (standard schedule.now.words schedule.now.rounds) ctr input.now (piece_count 16 input.now)) }
 {
     let mut value = chain;

@@ -1,6 +1,6 @@
-use mathlib.Core.Path.{◌≡◌, ap, ap₂, ◌∙◌}
+use mathlib.Core.Path.{◌≡◌, refl, ap, ap₂, ◌∙◌}
 use mathlib.Core.List.{List}
-use Prim.Native.Nat.{ℕ, ◌-◌}
+use Prim.Native.Nat.{ℕ}
 use lib.ListN.{length}
 use Rattle.octets.specs.Blocks.{◌⊕◌}
 use Rattle.aes_spec.specs.Cipher.{standard}
@@ -8,7 +8,6 @@ use Rattle.ccm_spec.specs.Ccm.{flagged, counter}
 use Rattle.ccm_stream.specs.Model.{streamed_over}
 use Rattle.ccm_chain.specs.Model.{mac_over}
 use Rattle.ccm.proofs.Building.{sealed_built}
-use native.Mathlib.Omega.{arith}
 use borrow.Author.Rules.{rules}
 use Rattle.ccm.proofs.seal_into.Goals as goal
 
@@ -21,5 +20,5 @@ returns c = let w = c.copy in
     let et : c.xor-tag.result ≡ mac_over e a.nonce.now a.ad.now a.message.now ⊕ e.enc (counter a.nonce.now 0) =
     c.xor-tag.ensures
     ∙ ap₂ ◌⊕◌ (c.mac.ensures ∙ ap (λ (y : List ℕ). mac_over e y a.ad.now a.message.now) c.thirteen-n.ensures) (c.encrypt_block.ensures ∙ ap e.enc ctr) in
-    sealed_built e a.nonce.now a.ad.now a.message.now a.output.now c.requires.2 c.xor-tag.result _ _ (8 - 0) lt et
-    (c.stream.ensures ∙ ap (λ (y : List ℕ). streamed_over e y a.message.now a.output.now) ctr) c.stream.auto.output (omega arith) w.ensures
+    sealed_built e a.nonce.now a.ad.now a.message.now a.output.now c.requires.2 c.xor-tag.result _ _ 8 lt et
+    (c.stream.ensures ∙ ap (λ (y : List ℕ). streamed_over e y a.message.now a.output.now) ctr) c.stream.auto.output refl w.ensures

@@ -15,8 +15,8 @@ pub returns-then-at-message : goal.returns-then-at-message
 returns-then-at-message c = let a = c.args in
     c.chained-value.ensures ∙ through_whole (standard a.schedule.now.words a.schedule.now.rounds) a.chain a.message.now c.if-at-message.true
 
-pub returns : goal.returns
-returns c = let f = c.piece_filled-rest in
+pub returns-else-at-message : goal.returns-else-at-message
+returns-else-at-message c = let f = c.piece_filled-rest in
     let a = c.args in
     let e = standard a.schedule.now.words a.schedule.now.rounds in
     let m = a.message.now in

@@ -111,14 +111,14 @@ opened_mac_determined κs a r r' s s' p q = p ∙ sym q
 pub stream_asks_nothing : (κs : _) (a : _) → stream.Asked κs a
 stream_asks_nothing κs a = tt
 
-pub stream_determined : (κs : _) (a : _) (r r' : _) (s s' : _) → stream.Post κs a r s → stream.Post κs a r' s' → s.1.1.1.1.0.now ≡ s'.1.1.1.1.0.now
+pub stream_determined : (κs : _) (a : _) (r r' : _) (s s' : _) → stream.Post κs a r s → stream.Post κs a r' s' → s.1.1.1.0.now ≡ s'.1.1.1.0.now
 stream_determined κs a r r' s s' p q = p ∙ sym q
 
 -- an output that is shorter than the input stays
-pub stream_refused_keeps : (κs : _) (a : _) (r : _) (s : _) → stream.Post κs a r s → length a.1.1.1.1.0.now < length a.1.1.1.0.now
-    → s.1.1.1.1.0.now ≡ a.1.1.1.1.0.now
+pub stream_refused_keeps : (κs : _) (a : _) (r : _) (s : _) → stream.Post κs a r s → length a.1.1.1.0.now < length a.1.1.0.now
+    → s.1.1.1.0.now ≡ a.1.1.1.0.now
 unfolding streamed_over
-stream_refused_keeps κs a r s p h = p ∙ rw (lt-leb (length a.1.1.1.0.now) (length a.1.1.1.1.0.now) h)
+stream_refused_keeps κs a r s p h = p ∙ rw (lt-leb (length a.1.1.0.now) (length a.1.1.1.0.now) h)
 
 pub seal_asks_nothing : (κs : _) (a : _) → seal.Asked κs a
 seal_asks_nothing κs a = tt

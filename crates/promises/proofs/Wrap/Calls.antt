@@ -62,12 +62,12 @@ pub passes_asks_nothing : (κs : _) (a : _) → passes.Asked κs a
 passes_asks_nothing κs a = tt
 
 pub passes_determined : (κs : _) (a : _) (r r' : _) (s s' : _) → passes.Post κs a r s → passes.Post κs a r' s'
-    → s.1.1.0.now ≡ s'.1.1.0.now
+    → s.1.0.now ≡ s'.1.0.now
 passes_determined κs a r r' s s' p q = p ∙ sym q
 
 -- registers of no size in the rule stay as they are
-pub passes_refused_keeps : (κs : _) (a : _) (r : _) (s : _) → passes.Post κs a r s → wrapped_size_fits (length a.1.1.0.now) ≡ false
-    → s.1.1.0.now ≡ a.1.1.0.now
+pub passes_refused_keeps : (κs : _) (a : _) (r : _) (s : _) → passes.Post κs a r s → wrapped_size_fits (length a.1.0.now) ≡ false
+    → s.1.0.now ≡ a.1.0.now
 unfolding passed_over
 passes_refused_keeps κs a r s p e = p ∙ rw e
 
@@ -75,11 +75,11 @@ pub unpasses_asks_nothing : (κs : _) (a : _) → unpasses.Asked κs a
 unpasses_asks_nothing κs a = tt
 
 pub unpasses_determined : (κs : _) (a : _) (r r' : _) (s s' : _) → unpasses.Post κs a r s → unpasses.Post κs a r' s'
-    → s.1.1.0.now ≡ s'.1.1.0.now
+    → s.1.0.now ≡ s'.1.0.now
 unpasses_determined κs a r r' s s' p q = p ∙ sym q
 
-pub unpasses_refused_keeps : (κs : _) (a : _) (r : _) (s : _) → unpasses.Post κs a r s → wrapped_size_fits (length a.1.1.0.now) ≡ false
-    → s.1.1.0.now ≡ a.1.1.0.now
+pub unpasses_refused_keeps : (κs : _) (a : _) (r : _) (s : _) → unpasses.Post κs a r s → wrapped_size_fits (length a.1.0.now) ≡ false
+    → s.1.0.now ≡ a.1.0.now
 unfolding unpassed_over
 unpasses_refused_keeps κs a r s p e = p ∙ rw e
 
