@@ -7,6 +7,7 @@ use native.Mathlib.Omega.{arith}
 use borrow.Author.Tests.{eq-eqb, le-ltb}
 use lib.ListN.{length, take, drop}
 use lib.Seq.{take_at}
+use Rattle.std.specs.Prelude.{Option, Some, None}
 use Rattle.octets.specs.Octets.{Bytes, same, over}
 use Rattle.octets.specs.Blocks.{◌⊕◌}
 use Rattle.octets.proofs.Same.{same_true, same_refl}
@@ -36,8 +37,6 @@ use Rattle.aesavs_monte.proofs.Equations as equations
 use Rattle.aesavs_monte.proofs.Pins as pins
 use Rattle.aesavs_record.proofs.Pins as form
 use Rattle.aesavs.specs.Replay.{first_field, second_field, second_verdict, computed, known_answer, key_of, start_verdict, earlier, from_link, monte_carlo}
-use Rattle.aesavs.specs.declared.Verdict.{Verdict}
-use Rattle.aesavs.specs.declared.Verdict.TheVariants.{Agrees, Differs}
 
 -- ---- the chain, by AESAVS's indices: a text and its output, and what the next record starts from
 
@@ -153,21 +152,21 @@ pub record Same (w : Way) (ch : Bool) (own given : Link) (second : List ℕ) : T
   pub same_text : own.text ≡ given.text
   pub same_output : (ran_of w ch own).output ≡ second
 
-second_agrees : (w : Way) (x y : List ℕ) → second_verdict w x y ≡ Agrees → x ≡ y
+second_agrees : (w : Way) (x y : List ℕ) → second_verdict w x y ≡ None → x ≡ y
 unfolding second_verdict
 second_agrees w x y = go (same x y) refl
   where
-    go : (b : Bool) → same x y ≡ b → cond b Agrees (Differs (second_field w)) ≡ Agrees → x ≡ y
+    go : (b : Bool) → same x y ≡ b → cond b None (Some (second_field w)) ≡ None → x ≡ y
     go true e h = same_true x y e
     go false e h = absurd (let z : ◌≡◌ {A = ℕ} 0 1 = cc in omega arith)
 
-agree_second : (w : Way) (x y : List ℕ) → x ≡ y → second_verdict w x y ≡ Agrees
+agree_second : (w : Way) (x y : List ℕ) → x ≡ y → second_verdict w x y ≡ None
 unfolding second_verdict
 agree_second w x y e = rw (e, same_refl y)
 
-both_agree : (a b : Verdict) → earlier a b ≡ Agrees → (a ≡ Agrees) × (b ≡ Agrees)
-both_agree Agrees b e = (refl, e)
-both_agree (Differs f) b e = absurd (let z : ◌≡◌ {A = ℕ} 0 1 = cc in omega arith)
+both_agree : (a b : Option Field) → earlier a b ≡ None → (a ≡ None) × (b ≡ None)
+both_agree None b e = (refl, e)
+both_agree (Some f) b e = absurd (let z : ◌≡◌ {A = ℕ} 0 1 = cc in omega arith)
 
 -- the next record's start is computed from this one's, whatever the record itself says
 pub it_goes_on_from_its_own_values : (w : Way) (ch : Bool) (own given : Link) (second : List ℕ) → (monte_carlo w ch false own given second).next ≡ (ran_of w ch own).next
@@ -186,13 +185,13 @@ unfolding link_at
 the_chain_of_a_section w ch first own given second n e = it_goes_on_from_its_own_values w ch own given second ∙ rw e
 
 -- every other record: 0 exactly where key, IV, first text and second text are those computed
-start_agrees : (w : Way) (ch : Bool) (own given : Link) → start_verdict w ch own given ≡ Agrees
+start_agrees : (w : Way) (ch : Bool) (own given : Link) → start_verdict w ch own given ≡ None
     → (key_of own ≡ key_of given) × ((not ch || same own.iv given.iv) ≡ true) × (own.text ≡ given.text)
 unfolding start_verdict
 start_agrees w ch own given = go (same (key_of own) (key_of given)) (not ch || same own.iv given.iv) (same own.text given.text) refl refl refl
   where
     go : (a b d : Bool) → same (key_of own) (key_of given) ≡ a → (not ch || same own.iv given.iv) ≡ b → same own.text given.text ≡ d
-        → cond a (cond b (cond d Agrees (Differs (first_field w))) (Differs Iv)) (Differs Key) ≡ Agrees
+        → cond a (cond b (cond d None (Some (first_field w))) (Some Iv)) (Some Key) ≡ None
         → (key_of own ≡ key_of given) × ((not ch || same own.iv given.iv) ≡ true) × (own.text ≡ given.text)
     go true true true e f g h = (same_true (key_of own) (key_of given) e, f, same_true own.text given.text g)
     go true true false e f g h = absurd (let z : ◌≡◌ {A = ℕ} 0 1 = cc in omega arith)
@@ -207,41 +206,41 @@ iv_chained : (ch : Bool) (x y : List ℕ) → (ch ≡ true → x ≡ y) → (not
 iv_chained true x y h = rw (h refl) (same_refl y)
 iv_chained false x y h = refl
 
-pub a_record_agrees_then : (w : Way) (ch : Bool) (own given : Link) (second : List ℕ) → (monte_carlo w ch false own given second).verdict ≡ Agrees → Same w ch own given second
+pub a_record_agrees_then : (w : Way) (ch : Bool) (own given : Link) (second : List ℕ) → (monte_carlo w ch false own given second).verdict ≡ None → Same w ch own given second
 unfolding monte_carlo from_link
 a_record_agrees_then w ch own given second e =
     let b = both_agree (start_verdict w ch own given) (second_verdict w (ran_of w ch own).output second) e in
     let s = start_agrees w ch own given b.0 in
     record { same_key = s.0; same_iv = chained_iv ch own.iv given.iv s.1; same_text = s.2; same_output = second_agrees w (ran_of w ch own).output second b.1 }
 
-agree_start : (w : Way) (ch : Bool) (own given : Link) → key_of own ≡ key_of given → (ch ≡ true → own.iv ≡ given.iv) → own.text ≡ given.text → start_verdict w ch own given ≡ Agrees
+agree_start : (w : Way) (ch : Bool) (own given : Link) → key_of own ≡ key_of given → (ch ≡ true → own.iv ≡ given.iv) → own.text ≡ given.text → start_verdict w ch own given ≡ None
 unfolding start_verdict
 agree_start w ch own given k i t =
     let a : same (key_of own) (key_of given) ≡ true = ap (λ (x : List ℕ). same x (key_of given)) k ∙ same_refl (key_of given) in
     let b : same own.text given.text ≡ true = ap (λ (x : List ℕ). same x given.text) t ∙ same_refl given.text in
     rw (a, iv_chained ch own.iv given.iv i, b)
 
-pub a_record_that_is_computed_agrees : (w : Way) (ch : Bool) (own given : Link) (second : List ℕ) → Same w ch own given second → (monte_carlo w ch false own given second).verdict ≡ Agrees
+pub a_record_that_is_computed_agrees : (w : Way) (ch : Bool) (own given : Link) (second : List ℕ) → Same w ch own given second → (monte_carlo w ch false own given second).verdict ≡ None
 unfolding monte_carlo from_link
 a_record_that_is_computed_agrees w ch own given second s =
     rw (agree_start w ch own given s.same_key s.same_iv s.same_text) (agree_second w (ran_of w ch own).output second s.same_output)
 
 -- the field named is the first that differs: KEY before IV before the first text before the second
 pub the_first_field_that_differs : (w : Way) (ch : Bool) (own given : Link)
-    → (same (key_of own) (key_of given) ≡ false → start_verdict w ch own given ≡ Differs Key)
-    × (same (key_of own) (key_of given) ≡ true → (not ch || same own.iv given.iv) ≡ false → start_verdict w ch own given ≡ Differs Iv)
-    × (same (key_of own) (key_of given) ≡ true → (not ch || same own.iv given.iv) ≡ true → same own.text given.text ≡ false → start_verdict w ch own given ≡ Differs (first_field w))
+    → (same (key_of own) (key_of given) ≡ false → start_verdict w ch own given ≡ Some Key)
+    × (same (key_of own) (key_of given) ≡ true → (not ch || same own.iv given.iv) ≡ false → start_verdict w ch own given ≡ Some Iv)
+    × (same (key_of own) (key_of given) ≡ true → (not ch || same own.iv given.iv) ≡ true → same own.text given.text ≡ false → start_verdict w ch own given ≡ Some (first_field w))
 unfolding start_verdict
 the_first_field_that_differs w ch own given = (λ e. rw e, λ e f. rw (e, f), λ e f g. rw (e, f, g))
 
-pub a_start_that_differs_is_told_first : (w : Way) (ch : Bool) (own given : Link) (second : List ℕ) (f : Field) → start_verdict w ch own given ≡ Differs f
-    → (monte_carlo w ch false own given second).verdict ≡ Differs f
+pub a_start_that_differs_is_told_first : (w : Way) (ch : Bool) (own given : Link) (second : List ℕ) (f : Field) → start_verdict w ch own given ≡ Some f
+    → (monte_carlo w ch false own given second).verdict ≡ Some f
 unfolding monte_carlo from_link
 a_start_that_differs_is_told_first w ch own given second f e = rw e
 
 -- of the first record the second text alone is compared
 pub the_first_agrees_exactly : (w : Way) (ch : Bool) (own given : Link) (second : List ℕ)
-    → ((monte_carlo w ch true own given second).verdict ≡ Agrees → (ran_of w ch given).output ≡ second)
-    × ((ran_of w ch given).output ≡ second → (monte_carlo w ch true own given second).verdict ≡ Agrees)
+    → ((monte_carlo w ch true own given second).verdict ≡ None → (ran_of w ch given).output ≡ second)
+    × ((ran_of w ch given).output ≡ second → (monte_carlo w ch true own given second).verdict ≡ None)
 unfolding monte_carlo from_link
 the_first_agrees_exactly w ch own given second = (second_agrees w (ran_of w ch given).output second, agree_second w (ran_of w ch given).output second)
