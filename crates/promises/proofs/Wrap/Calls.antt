@@ -5,7 +5,7 @@ use mathlib.Core.List.{List}
 use Prim.Native.Nat.{ℕ, ◌+◌, ◌≤◌, ◌-◌, ◌<◌}
 use native.Mathlib.Omega.{arith}
 use lib.ListN.{length, take, drop}
-use Rattle.octets.specs.Octets.{Bytes, over}
+use Rattle.octets.specs.Octets.{Bytes}
 use Rattle.aes_spec.specs.Cipher.{aes_of}
 use Rattle.wrap_spec.specs.Wrap.{wrapped}
 use Rattle.wrap_answer.specs.Answers.{wrap_number, wrapped_size_fits, size_fits_of, wrap_ruled}
@@ -29,8 +29,6 @@ use Rattle.wrap_answer.proofs.WrapAnswer.number.Reads as wrap-number
 use Rattle.aes_schedule.specs.Schedule.{key_number}
 use Rattle.aes_schedule.specs.declared.KeyAnswer.{KeyAnswer}
 use Rattle.aes_schedule.specs.declared.KeyAnswer.TheVariants.{Taken}
-use Rattle.text_put.specs.Places.{fits}
-use Rattle.promises.proofs.Image.Words.{given}
 
 -- ---- demand 1
 
