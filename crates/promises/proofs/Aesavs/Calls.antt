@@ -5,11 +5,13 @@ use Prim.Native.Nat.{◌+◌}
 use Rattle.modes_answer.specs.Answers.{mode_number}
 use Rattle.modes.specs.Calls.{mode_answer}
 use Rattle.modes.proofs.Calls.{kept}
-use Rattle.std.specs.Prelude.{None}
+use Rattle.std.specs.Prelude.{None, Option, Result, Unit}
 use Rattle.text_lines.specs.declared.Gathered.{Gathered}
 use Rattle.text_lines.proofs.Laws.{too_long_keeps}
 use Rattle.aesavs_record.specs.Records.{between, next_line}
-use Rattle.aesavs_record.specs.declared.Stepped.{Stepped}
+use Rattle.aesavs_record.specs.declared.Record.{Record}
+use Rattle.aesavs_record.specs.declared.Refused.{Refused}
+use Rattle.aesavs_record.specs.declared.Standing.{Standing}
 use Rattle.aesavs_record.proofs.Told.{refusing, expected, refused_exactly, end_refused_exactly, lines_are_counted}
 use Rattle.aesavs_monte.specs.Chain.{operation_of}
 use Rattle.aesavs.specs.Replay.{computed}
@@ -19,9 +21,9 @@ use Rattle.text_lines.proofs.gather.Reads as gather
 use Rattle.aesavs_line.proofs.read_line.Reads as read_line
 use Rattle.aesavs_line.proofs.value.Reads as value
 use Rattle.aesavs_line.proofs.strip.Reads as strip
-use Rattle.aesavs_record.proofs.start.Reads as record_start
-use Rattle.aesavs_record.proofs.step.Reads as record_step
-use Rattle.aesavs_record.proofs.finish.Reads as record_end
+use Rattle.aesavs_record.proofs.Standing.start.Reads as record_start
+use Rattle.aesavs_record.proofs.Standing.step.Reads as record_step
+use Rattle.aesavs_record.proofs.Standing.finish.Reads as record_end
 use Rattle.aesavs_record.proofs.role_of.Reads as role_of
 use Rattle.aesavs_monte.proofs.operation_of.Reads as operation-of
 use Rattle.aesavs_monte.proofs.link_of.Reads as link_of
@@ -80,8 +82,8 @@ record_start_determined κs a r r' s s' p q = p ∙ sym q
 pub record_step_asks_nothing : (κs : _) (a : _) → record_step.Asked κs a
 record_step_asks_nothing κs a = tt
 
-pub record_step_determined : (κs : _) (a : _) (r r' : _) (s s' : _) → record_step.Post κs a r s → record_step.Post κs a r' s' → r ≡ r'
-record_step_determined κs a r r' s s' p q = p ∙ sym q
+pub record_step_determined : (κs : _) (a : _) (r r' : _) (s s' : _) → record_step.Post κs a r s → record_step.Post κs a r' s' → (r ≡ r') × (s.0.now ≡ s'.0.now)
+record_step_determined κs a r r' s s' p q = (p.1 ∙ sym q.1, p.0 ∙ sym q.0)
 
 pub record_end_asks_nothing : (κs : _) (a : _) → record_end.Asked κs a
 record_end_asks_nothing κs a = tt
@@ -141,14 +143,14 @@ monte_carlo_determined κs a r r' s s' p q = p ∙ sym q
 
 -- ---- 22 comes exactly where no such line may come, with the number of the line
 
-pub record_step_as_told : (κs : _) (a : _) (r : _) (s : _) → record_step.Post κs a r s → refusing r.deed ≡ not (expected a.0 a.1.0 a.1.1.0)
-record_step_as_told κs a r s p = ap (λ (x : Stepped). refusing x.deed) p ∙ refused_exactly a.0 a.1.1.0 a.1.0
+pub record_step_as_told : (κs : _) (a : _) (r : _) (s : _) → record_step.Post κs a r s → refusing r ≡ not (expected a.0.now a.1.0 a.1.1.0)
+record_step_as_told κs a r s p = ap (λ (x : Result (Option Record) Refused). refusing x) p.1 ∙ refused_exactly a.0.now a.1.1.0 a.1.0
 
-pub record_step_done : (κs : _) (a : _) (r : _) (s : _) → record_step.Post κs a r s → expected a.0 a.1.0 a.1.1.0 ≡ true → refusing r.deed ≡ false
+pub record_step_done : (κs : _) (a : _) (r : _) (s : _) → record_step.Post κs a r s → expected a.0.now a.1.0 a.1.1.0 ≡ true → refusing r ≡ false
 record_step_done κs a r s p e = record_step_as_told κs a r s p ∙ ap not e
 
-pub record_step_counts : (κs : _) (a : _) (r : _) (s : _) → record_step.Post κs a r s → r.standing.lines ≡ next_line a.0.lines
-record_step_counts κs a r s p = ap (λ (x : Stepped). x.standing.lines) p ∙ lines_are_counted a.0 a.1.0 a.1.1.0
+pub record_step_counts : (κs : _) (a : _) (r : _) (s : _) → record_step.Post κs a r s → s.0.now.lines ≡ next_line a.0.now.lines
+record_step_counts κs a r s p = ap (λ (x : Standing). x.lines) p.0 ∙ (lines_are_counted a.0.now a.1.0 a.1.1.0).0
 
-pub record_end_as_told : (κs : _) (a : _) (r : _) (s : _) → record_end.Post κs a r s → refusing r.deed ≡ not (between a.0.stage)
-record_end_as_told κs a r s p = ap (λ (x : Stepped). refusing x.deed) p ∙ end_refused_exactly a.0
+pub record_end_as_told : (κs : _) (a : _) (r : _) (s : _) → record_end.Post κs a r s → refusing r ≡ not (between a.0.stage)
+record_end_as_told κs a r s p = ap (λ (x : Result Unit Refused). refusing x) p ∙ end_refused_exactly a.0
