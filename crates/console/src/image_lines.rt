@@ -1,104 +1,94 @@
 // The lines of images: `write EKEY CKEY NUMBER COUNT RELEASE EDITION PREVIOUS PAYLOAD OUT`, `read-start EKEY CKEY`,
 // `read-turn ASKED BLOCKS OUT`, `read-complete`, `read-save BYTES` and `read-resume EKEY CKEY BOOKMARK`.
-use crate::held::Held;
-use crate::{args, print, stopped};
-use args::Args;
-use image_reader::Turn;
+use crate::answers::Answers;
+use crate::words::Words;
+use image_reader::{Reader, Turn};
+use image_reader_tally::Stop;
 use image_writer_answer::Numbers;
 
-#[derive(Clone, Copy)]
-pub enum ImageCall {
-    Write,
-    Start,
-    Turn,
-    Complete,
-    Save,
-    Resume,
+// `N OUT`
+pub fn write(words: &mut Words, answers: &mut Answers) -> Option<()> {
+    let ekey = words.bytes()?;
+    let ckey = words.bytes()?;
+    let numbers = Numbers {
+        number: words.number()?,
+        count: words.number()?,
+        release: words.number()?,
+        edition: words.number()?,
+    };
+    let previous = words.array()?;
+    let payload = words.bytes()?;
+    let output = words.output()?;
+    words.end()?;
+    let written = image_writer::write(ekey, ckey, numbers, previous, payload, output);
+    answers.begin(written.number());
+    answers.bytes(output);
+    Some(())
 }
 
-pub fn answer(
-    call: ImageCall,
-    held: Held,
-    ins: &[u8],
-    a: Args,
-    outs: &mut [u8],
-    text: &mut [u8],
-    at: usize,
-) -> Held {
-    match call {
-        ImageCall::Write => held.at(write(ins, a, outs, text, at)),
-        ImageCall::Start => start(held, ins, a, text, at),
-        ImageCall::Turn => turn(held, ins, a, outs, text, at),
-        ImageCall::Complete => held.at(complete(held, text, at)),
-        ImageCall::Save => held.at(save(held, a, text, at)),
-        ImageCall::Resume => resume(held, ins, a, text, at),
-    }
+// `N`
+pub fn start(words: &mut Words, answers: &mut Answers, reader: &mut Reader) -> Option<()> {
+    let ekey = words.bytes()?;
+    let ckey = words.bytes()?;
+    words.end()?;
+    let started = image_reader::read_start(ekey, ckey);
+    *reader = started.reader;
+    answers.begin(started.answer.number());
+    Some(())
 }
 
-fn write(ins: &[u8], a: Args, outs: &mut [u8], text: &mut [u8], at: usize) -> usize {
-    let n = args::out_len(a, 9, outs);
-    let r = image_writer::write(
-        args::bytes(ins, a, 1),
-        args::bytes(ins, a, 2),
-        numbers(a),
-        args::block(ins, a, 7),
-        args::bytes(ins, a, 8),
-        &mut outs[..n],
-    );
-    print::number_bytes(r.number() as u64, octets_slice::part(outs, 0, n), text, at)
+// `N ACCEPTED SUM PLACE REASON VALUE OUT`
+pub fn turn(words: &mut Words, answers: &mut Answers, reader: &mut Reader) -> Option<()> {
+    let asked = words.number()?;
+    let blocks = words.bytes()?;
+    let output = words.output()?;
+    words.end()?;
+    let turn = image_reader::read_turn(*reader, blocks, asked, output);
+    *reader = turn.reader;
+    put_turn(turn, answers);
+    answers.bytes(output);
+    Some(())
 }
 
-fn numbers(a: Args) -> Numbers {
-    Numbers {
-        number: args::number(a, 3),
-        count: args::number(a, 4),
-        release: args::number(a, 5),
-        edition: args::number(a, 6),
-    }
+// N is a refusal of the whole turn. A block that stopped it has PLACE, REASON and, where the reason holds one, VALUE.
+fn put_turn(turn: Turn, answers: &mut Answers) {
+    let (number, place, reason, value) = match turn.stop {
+        Stop::At(place, reason) => (0, Some(place), Some(reason.number()), reason.value()),
+        stop => (stop.number(), None, None, None),
+    };
+    answers.begin(number);
+    answers.number(turn.accepted as u64);
+    answers.number(turn.bytes as u64);
+    answers.number_or_dash(place.map(|n| n as u64));
+    answers.number_or_dash(reason.map(u64::from));
+    answers.number_or_dash(value.map(u64::from));
 }
 
-fn start(held: Held, ins: &[u8], a: Args, text: &mut [u8], at: usize) -> Held {
-    let s = image_reader::read_start(args::bytes(ins, a, 1), args::bytes(ins, a, 2));
-    let answer = s.answer;
-    let reader = s.reader;
-    held.with_reader(reader)
-        .at(print::number(answer.number() as u64, text, at))
+// `N`
+pub fn complete(words: &mut Words, answers: &mut Answers, reader: Reader) -> Option<()> {
+    words.end()?;
+    answers.begin(image_reader::read_complete(reader).number());
+    Some(())
 }
 
-fn turn(held: Held, ins: &[u8], a: Args, outs: &mut [u8], text: &mut [u8], at: usize) -> Held {
-    let reader = held.reader;
-    let n = args::out_len(a, 3, outs);
-    let blocks = args::bytes(ins, a, 2);
-    let t = image_reader::read_turn(reader, blocks, args::count(a, 1), &mut outs[..n]);
-    after_turn(held, t, octets_slice::part(outs, 0, n), text, at)
+// `0 BOOKMARK`
+pub fn save(words: &mut Words, answers: &mut Answers, reader: Reader) -> Option<()> {
+    let bytes = words.number()?;
+    words.end()?;
+    answers.begin(0);
+    answers.bytes(&image_reader_bookmark::read_save(reader, bytes));
+    Some(())
 }
 
-fn after_turn(held: Held, t: Turn, out: &[u8], text: &mut [u8], at: usize) -> Held {
-    let reader = t.reader;
-    let p = print::six(stopped::turn_numbers(t), text, at);
-    held.with_reader(reader).at(text_hex::put_hex(out, text, p))
-}
-
-fn complete(held: Held, text: &mut [u8], at: usize) -> usize {
-    let reader = held.reader;
-    let c = image_reader::read_complete(reader);
-    print::number(c.number() as u64, text, at)
-}
-
-fn save(held: Held, a: Args, text: &mut [u8], at: usize) -> usize {
-    let reader = held.reader;
-    let bookmark = image_reader_bookmark::read_save(reader, args::count(a, 1) as u64);
-    print::number_bytes(0, &bookmark, text, at)
-}
-
-fn resume(held: Held, ins: &[u8], a: Args, text: &mut [u8], at: usize) -> Held {
-    let r = image_reader_bookmark::read_resume(
-        args::bytes(ins, a, 1),
-        args::bytes(ins, a, 2),
-        args::bookmark(ins, a, 3),
-    );
-    let answer = r.answer;
-    let reader = r.reader;
-    let p = print::spaced(answer.number() as u64, text, at);
-    held.with_reader(reader).at(print::number(r.bytes, text, p))
+// `N BYTES`
+pub fn resume(words: &mut Words, answers: &mut Answers, reader: &mut Reader) -> Option<()> {
+    let ekey = words.bytes()?;
+    let ckey = words.bytes()?;
+    let bookmark = words.array()?;
+    words.end()?;
+    let resumed = image_reader_bookmark::read_resume(ekey, ckey, bookmark);
+    *reader = resumed.reader;
+    answers.begin(resumed.answer.number());
+    answers.number(resumed.bytes);
+    Some(())
 }
