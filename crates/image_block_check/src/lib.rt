@@ -18,7 +18,10 @@ use octets_slice::equal;
 pub fn check_of(chk: &KeySchedule, subkeys: &Subkeys, front: &[u8], tail: &[u8]) -> [u8; 16]
     ensures { result ≡ lent_mac_of chk.now subkeys.now (front.now ++ tail.now) }
 {
-    Run::new().fed(chk, front).fed(chk, tail).closed(chk, subkeys)
+    Run::new()
+        .fed(chk, front)
+        .fed(chk, tail)
+        .closed(chk, subkeys)
 }
 
 // Whether a block carries its check, all 16 bytes, which also covers a tail. Under schedules that no keys gave, no check is right.

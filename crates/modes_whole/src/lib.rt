@@ -52,11 +52,7 @@ fn opened(
     let mut chain = iv;
     for i in 0..n {
         let piece = load(input, i * 16);
-        store(
-            output,
-            i * 16,
-            xor(decrypt_block(schedule, piece), chain),
-        );
+        store(output, i * 16, xor(decrypt_block(schedule, piece), chain));
         chain = piece;
     }
     chain

@@ -19,7 +19,7 @@ returns-then-block-ne512 c =
     let a = c.args in
     let k = lent_cipher a.enc.now a.dec.now in
     elim c.then-block-ne512.branch [
-      then-block-ne512-via-then-block-ne512 w ↦ open_none k a.block.now a.output.now w.if-block-ne512.true
+      | then-block-ne512-via-then-block-ne512 w ↦ open_none k a.block.now a.output.now w.if-block-ne512.true
       | then-block-ne512-via-else-block-ne512+then-output-lt480 w ↦ open_short k a.block.now a.output.now w.if-block-ne512.false w.if-output-lt480.true
     ]
 

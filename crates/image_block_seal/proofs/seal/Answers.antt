@@ -10,7 +10,7 @@ returns-else-payload-le480 c =
     let ek = standard a.keys.now.enc.words a.keys.now.enc.rounds in
     let mac = lent_mac_of a.keys.now.chk a.subkeys.now in
     elim c.else-payload-le480.branch [
-      else-payload-le480-via-then-payload-le480+else-output-ge512 w ↦ seal_short ek mac a.tail.now a.head a.payload.now a.output.now w.if-payload-le480.true w.if-output-ge512.false
+      | else-payload-le480-via-then-payload-le480+else-output-ge512 w ↦ seal_short ek mac a.tail.now a.head a.payload.now a.output.now w.if-payload-le480.true w.if-output-ge512.false
       | else-payload-le480-via-else-payload-le480 w ↦ seal_long ek mac a.tail.now a.head a.payload.now a.output.now w.if-payload-le480.false
     ]
 

@@ -11,7 +11,7 @@ returns-in_default-answer c =
     let a = c.args in
     let taken : c.match-matches.matches ≡ both_taken (schedule_of s_box a.ekey.now) (schedule_of s_box a.ckey.now) =
     elim c.match-matches.branch [
-      in-Taken w ↦ flag_taken a.ekey.now a.ckey.now _ c.expand.ensures.answer _ w.in-Taken.is w.matches-is
+      | in-Taken w ↦ flag_taken a.ekey.now a.ckey.now _ c.expand.ensures.answer _ w.in-Taken.is w.matches-is
       | in_default w ↦ flag_refused a.ekey.now a.ckey.now _ c.expand.ensures.answer _ w.in_default.not-Taken w.matches-is
     ] in
     record {
@@ -24,7 +24,7 @@ seal_under-requires c =
     let a = c.args in
     let taken : c.match-matches.matches ≡ both_taken (schedule_of s_box a.ekey.now) (schedule_of s_box a.ckey.now) =
     elim c.match-matches.branch [
-      in-Taken w ↦ flag_taken a.ekey.now a.ckey.now _ c.expand.ensures.answer _ w.in-Taken.is w.matches-is
+      | in-Taken w ↦ flag_taken a.ekey.now a.ckey.now _ c.expand.ensures.answer _ w.in-Taken.is w.matches-is
       | in_default w ↦ flag_refused a.ekey.now a.ckey.now _ c.expand.ensures.answer _ w.in_default.not-Taken w.matches-is
     ] in
     write_fits a.ekey.now a.ckey.now _ taken a.numbers a.payload.now a.output.now _ c.judge_write-answer.ensures c.in-Written.is
@@ -34,7 +34,7 @@ returns-in-Written-clause-answer c =
     let a = c.args in
     let taken : c.match-matches.matches ≡ both_taken (schedule_of s_box a.ekey.now) (schedule_of s_box a.ckey.now) =
     elim c.match-matches.branch [
-      in-Taken w ↦ flag_taken a.ekey.now a.ckey.now _ c.expand.ensures.answer _ w.in-Taken.is w.matches-is
+      | in-Taken w ↦ flag_taken a.ekey.now a.ckey.now _ c.expand.ensures.answer _ w.in-Taken.is w.matches-is
       | in_default w ↦ flag_refused a.ekey.now a.ckey.now _ c.expand.ensures.answer _ w.in_default.not-Taken w.matches-is
     ] in
     write_answered a.ekey.now a.ckey.now _ taken a.numbers a.payload.now a.output.now _ c.judge_write-answer.ensures
@@ -44,7 +44,7 @@ returns-in-Written-clause-written c =
     let a = c.args in
     let taken : c.match-matches.matches ≡ both_taken (schedule_of s_box a.ekey.now) (schedule_of s_box a.ckey.now) =
     elim c.match-matches.branch [
-      in-Taken w ↦ flag_taken a.ekey.now a.ckey.now _ c.expand.ensures.answer _ w.in-Taken.is w.matches-is
+      | in-Taken w ↦ flag_taken a.ekey.now a.ckey.now _ c.expand.ensures.answer _ w.in-Taken.is w.matches-is
       | in_default w ↦ flag_refused a.ekey.now a.ckey.now _ c.expand.ensures.answer _ w.in_default.not-Taken w.matches-is
     ] in
     written_by a.ekey.now a.ckey.now _ taken a.numbers a.payload.now a.output.now _ c.judge_write-answer.ensures _ c.expand.ensures.keys a.previous _ c.in-Written.is c.seal_under.ensures

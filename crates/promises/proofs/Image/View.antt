@@ -273,11 +273,10 @@ abbrev pub OfSays : (s : Bor (List ℕ)) (r : Result View ViewRefusal) → Type 
 OfSays s r = (length s.now % 512 ≡ 0 → IsOkAnd r (Holds s)) × ((length s.now % 512 ≡ 0 → ⊥) → r ≡ Err NotWhole)
 
 pub of_as_told : (κs : _) (a : _) (r : _) (s : _) → of.Post κs a r s → OfSays a.0 r
-of_as_told κs a r s p =
-    (
-      (λ w. by_0 r (Holds a.0) (p.0 ∙ pins.made_of_whole _ w) p.1),
-      (λ h. by_6 r (p.0 ∙ pins.made_of_odd _ h)),
-    )
+of_as_told κs a r s p = (
+  (λ w. by_0 r (Holds a.0) (p.0 ∙ pins.made_of_whole _ w) p.1),
+  (λ h. by_6 r (p.0 ∙ pins.made_of_odd _ h)),
+)
 
 -- 20 where the place is not below the number of blocks, else this part
 abbrev pub ShownSays : (v : View) (place : ℕ) (part : List ℕ) (r : Result (Bor (List ℕ)) ViewRefusal) → Type 0
