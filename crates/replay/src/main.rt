@@ -3,326 +3,176 @@
 // the run and the name of a file instead, and then it reports on a descriptor whether every record agreed.
 #![tactic(auto)]
 
-mod answers;
-mod file;
-mod record;
+mod fields;
+mod line;
+mod records;
+mod rows;
 
-ghost use Rattle.std.specs.Prelude.{◌<◌, length};
-
-use record::{Fields, Held, Text};
+use aesavs_record::Refused;
+use line::LineSoFar;
+use records::Records;
+use std::alloc::AllocError;
 use std::env::Env;
-use std::io::{self, Read};
-use text_lines::{Place, gather, has_begun, no_line};
+use std::fs::File;
+use std::io::Read;
+use std::rt::Files;
+use streams::Told;
 
-// The longest line, with a carriage return after it.
-type Line = [u8; 4097];
+// What a replay asks of the system.
+trait System: Files<File = File> + Env + Print + Eprint + AllocGlobal {}
 
-// The answers that wait; one has at most 32 bytes.
-type Answers = [u8; 8192];
+impl System for HostRuntime {}
 
-#[derive(Clone, Copy)]
-pub struct Fed {
-    pub held: Held,
-    pub place: Place,
-    pub at: usize,
+// Why a replay ends before its input does: a line is refused, or a read or a write failed, which was told, or there is no memory.
+#[derive(Clone, Copy, Debug, PartialEq, Eq)]
+enum Stop {
+    Refused(Refused),
+    Told,
+    NoMemory,
 }
 
-// What comes after a turn of reading: another; nothing, because the input ended or a line was refused; or nothing, because a read or a
-// write failed, which was reported.
-#[derive(Clone, Copy)]
-pub enum After {
-    Another,
-    Ended,
-    Failed,
-}
-
-#[derive(Clone, Copy)]
-pub struct Turned {
-    pub held: Held,
-    pub place: Place,
-    pub after: After,
-}
-
-// Past the mark up to which there is room for one more answer, those that wait would be cut off: a part of the input has fewer.
-fn finish(
-    held: Held,
-    p: Place,
-    line: &Line,
-    fields: &mut Fields,
-    output: &mut Text,
-    text: &mut Answers,
-) -> Held {
-    if held.refused {
-        return held;
+impl From<Refused> for Stop {
+    fn from(refused: Refused) -> Stop {
+        Stop::Refused(refused)
     }
-    if p.over {
-        return record::take_over_long(held, text);
-    }
-    let whole = octets_slice::part(line, 0, p.len);
-    record::take(held, aesavs_line::strip(whole), fields, output, text)
 }
 
-// Reads `part` from `at` up to its next line feed, or its end.
-fn feed_line(
-    held: Held,
-    p: Place,
-    part: &[u8],
-    at: usize,
-    line: &mut Line,
-    fields: &mut Fields,
-    output: &mut Text,
-    text: &mut Answers,
-) -> Fed
-    requires { at < length part.now }
-    ensures { at < result.at }
-{
-    let g = gather(p, part, at, line);
-    let place = g.place;
-    let next = g.next;
-    if !g.whole {
-        return Fed {
-            held,
-            place,
-            at: next,
+impl From<Told> for Stop {
+    fn from(_told: Told) -> Stop {
+        Stop::Told
+    }
+}
+
+impl From<AllocError> for Stop {
+    fn from(_e: AllocError) -> Stop {
+        Stop::NoMemory
+    }
+}
+
+#[derive(Drop)]
+struct Replay {
+    line: LineSoFar,
+    records: Records,
+}
+
+impl Replay {
+    fn new(rt: &impl System) -> Result<Replay, AllocError> {
+        Ok(Replay {
+            line: LineSoFar::new(),
+            records: Records::new(rt.alloc())?,
+        })
+    }
+
+    // Takes the lines that come whole with a part of the input.
+    fn feed(&mut self, part: &[u8]) -> Result<(), Stop> {
+        let mut at = 0;
+        while let Some(next) = self.line.gather(part, at) {
+            self.records.take(self.line.bytes())?;
+            self.line.begin();
+            at = next;
+        }
+        Ok(())
+    }
+
+    // At the end of the input a line that has begun counts, as if a line feed followed it.
+    fn finish(&mut self) -> Result<(), Stop> {
+        if self.line.has_begun() {
+            self.feed(b"\n")?;
+        }
+        self.records.finish()
+    }
+
+    // The run as a line before those of the file.
+    fn open(&mut self, rt: &impl System) -> Result<(), Stop> {
+        let mut word = [0u8; 8];
+        let n = rt.arg(1, &mut word).unwrap_or(0);
+        self.feed(&word[..n])?;
+        self.feed(b"\n")
+    }
+
+    // Takes a part of the input, or its end if the part is empty, and writes the answers. What came of the parts before it is `so_far`.
+    fn turn(
+        &mut self,
+        rt: &impl System,
+        so_far: Result<(), Stop>,
+        part: &[u8],
+    ) -> Result<(), Stop> {
+        let taken = match so_far {
+            Ok(()) if part.is_empty() => self.finish(),
+            Ok(()) => self.feed(part),
+            Err(stop) => Err(stop),
         };
+        if let Err(Stop::Refused(refused)) = taken {
+            self.records.refuse(refused)?;
+        }
+        self.records.write(rt)?;
+        taken
     }
-    Fed {
-        held: finish(held, place, line, fields, output, text),
-        place: no_line(),
-        at: next,
+
+    // Nothing says that the input ends, so the turns are counted, up to a number that no run reaches.
+    fn run<R: Read>(
+        &mut self,
+        rt: &impl System,
+        input: &mut R,
+        opened: Result<(), Stop>,
+    ) -> Result<(), Stop> {
+        let mut part = [0u8; 4096];
+        for _ in 0..u64::MAX {
+            let n = streams::read_part(
+                rt,
+                input,
+                &mut part,
+                "dock: the file could not be read to its end, check the disk and start again",
+            )?;
+            self.turn(rt, opened, &part[..n])?;
+            if n == 0 {
+                break;
+            }
+        }
+        Ok(())
     }
 }
 
-fn feed(
-    h: Held,
-    p: Place,
-    part: &[u8],
-    line: &mut Line,
-    fields: &mut Fields,
-    output: &mut Text,
-    text: &mut Answers,
-) -> Fed {
-    let mut held = h;
-    let mut place = p;
-    let mut at: usize = 0;
-    while at < part.len() {
-        let f = feed_line(held, place, part, at, line, fields, output, text);
-        held = f.held;
-        place = f.place;
-        at = f.at;
-    }
-    Fed { held, place, at }
+// Standard input has the run and then the file.
+fn replay_input<R: Read>(rt: &impl System, input: &mut R) -> Result<(), Stop> {
+    Replay::new(rt)?.run(rt, input, Ok(()))
 }
 
-fn written(rt: &HostRuntime, f: Fed, after: After, text: &Answers) -> Turned {
-    let held = f.held;
-    let place = f.place;
-    if !file::is_written(rt, octets_slice::part(text, 0, held.end)) {
-        return Turned {
-            held,
-            place,
-            after: After::Failed,
-        };
-    }
-    Turned {
-        held: held.at(0),
-        place,
-        after: after_refusal(held.refused, after),
-    }
-}
-
-fn after_refusal(refused: bool, after: After) -> After {
-    if refused {
-        return After::Ended;
-    }
-    after
-}
-
-// Nothing more came: at the end of the input a line that has begun counts, as if a line feed followed it.
-fn last_turn(
-    rt: &HostRuntime,
-    held: Held,
-    p: Place,
-    line: &mut Line,
-    fields: &mut Fields,
-    output: &mut Text,
-    text: &mut Answers,
-) -> Turned {
-    let f = last_line(held, p, line, fields, output, text);
-    let h = f.held;
-    let place = f.place;
-    let at = f.at;
-    written(
+// `dock` gives the run as the first word and the file's name as the second, and waits for the word that every record agreed.
+fn replay_file(rt: &impl System) -> Result<(), Stop> {
+    let mut input = streams::opened(
         rt,
-        Fed {
-            held: ended(h, text),
-            place,
-            at,
-        },
-        After::Ended,
-        text,
-    )
-}
-
-fn last_line(
-    held: Held,
-    p: Place,
-    line: &mut Line,
-    fields: &mut Fields,
-    output: &mut Text,
-    text: &mut Answers,
-) -> Fed {
-    if has_begun(p) {
-        return feed(held, p, b"\n", line, fields, output, text);
-    }
-    Fed {
-        held,
-        place: p,
-        at: 0,
-    }
-}
-
-fn ended(h: Held, text: &mut Answers) -> Held {
-    if h.refused {
-        return h;
-    }
-    record::end(h, text)
-}
-
-// Reads once and answers the lines that came whole.
-fn turn<R: Read>(
-    rt: &HostRuntime,
-    held: Held,
-    p: Place,
-    input: &mut R,
-    line: &mut Line,
-    fields: &mut Fields,
-    output: &mut Text,
-    text: &mut Answers,
-) -> Turned {
-    let mut chunk = [0u8; 4096];
-    match file::read_part(rt, input, &mut chunk) {
-        Ok(0) => last_turn(rt, held, p, line, fields, output, text),
-        Ok(n) => written(
-            rt,
-            feed(held, p, &chunk[..n], line, fields, output, text),
-            After::Another,
-            text,
-        ),
-        Err(_) => Turned {
-            held,
-            place: p,
-            after: After::Failed,
-        },
-    }
-}
-
-// The run as a line before those of the file, if `dock` gave it.
-fn opened(
-    rt: &HostRuntime,
-    held: Held,
-    told: bool,
-    line: &mut Line,
-    fields: &mut Fields,
-    output: &mut Text,
-    text: &mut Answers,
-) -> Fed {
-    if !told {
-        return Fed {
-            held,
-            place: no_line(),
-            at: 0,
-        };
-    }
-    let mut word = [0u8; 8];
-    let n = rt.arg(1, &mut word).unwrap_or(0);
-    let f = feed(held, no_line(), &word[..n], line, fields, output, text);
-    feed(f.held, f.place, b"\n", line, fields, output, text)
-}
-
-fn is_end(after: After) -> bool {
-    match after {
-        After::Ended => true,
-        After::Another | After::Failed => false,
-    }
-}
-
-// Every record agreed, and there was one.
-fn agreed(h: Held) -> bool {
-    if h.refused {
-        return false;
-    }
-    if h.records { h.agree } else { false }
-}
-
-fn said(rt: &HostRuntime, h: Held, told: bool, after: After) {
-    if !is_end(after) {
-        return;
-    }
-    if !told {
-        return;
-    }
-    if agreed(h) {
-        streams::report(rt, b"agrees\n");
-    }
-    if h.refused {
-        file::say_line(rt, h.standing.lines);
-    }
-}
-
-// `told` says whether `dock` started the program and waits for its word. Nothing says that the input ends, so the turns are counted, up
-// to a number that no run reaches.
-fn replay<R: Read>(
-    rt: &HostRuntime,
-    input: &mut R,
-    told: bool,
-    line: &mut Line,
-    fields: &mut Fields,
-    output: &mut Text,
-    text: &mut Answers,
-) {
-    let f = opened(rt, Held::new(), told, line, fields, output, text);
-    let mut held = f.held;
-    let mut place = f.place;
-    for _ in 0..u64::MAX {
-        let t = turn(rt, held, place, input, line, fields, output, text);
-        held = t.held;
-        place = t.place;
-        let After::Another = t.after else {
-            said(rt, held, told, t.after);
-            return;
-        };
-    }
-}
-
-fn replay_from<R: Read>(rt: &HostRuntime, input: &mut R, told: bool) {
-    let mut line = [0u8; 4097];
-    let mut fields = [0u8; 4144];
-    let mut output = [0u8; 2048];
-    let mut text = [0u8; 8192];
-    replay(
-        rt,
-        input,
-        told,
-        &mut line,
-        &mut fields,
-        &mut output,
-        &mut text,
-    );
-}
-
-// Standard input has the run and then the file. `dock` gives the run as the first word and the file's name as the second.
-fn main(rt: HostRuntime) {
-    if !streams::is_given(&rt, 2) {
-        replay_from(&rt, &mut rt.stdin(), false);
-        return;
-    }
-    let named = streams::opened(
-        &rt,
         2,
         "dock: the file cannot be opened, check its permissions",
+    )?;
+    let mut replay = Replay::new(rt)?;
+    let opened = replay.open(rt);
+    let ended = replay.run(rt, &mut input, opened);
+    match ended {
+        Ok(()) if replay.records.agree() => streams::report(rt, b"agrees\n"),
+        Err(Stop::Refused(refused)) => say_line(rt, refused),
+        _ => {}
+    }
+    ended
+}
+
+// The line `kat` or `mct` is line 1 and is in no file.
+fn say_line(rt: &impl System, refused: Refused) {
+    let line = refused.line.saturating_sub(1);
+    let _ = eprintln!(rt;
+        "dock: refusal 22 at line {line} of the file: it is outside the form, too long, or has a key or text of wrong size (docs/REPLAY.md)"
     );
-    if let Ok(mut input) = named {
-        replay_from(&rt, &mut input, true);
+}
+
+fn main(rt: HostRuntime) {
+    let ended = if streams::is_given(&rt, 2) {
+        replay_file(&rt)
+    } else {
+        replay_input(&rt, &mut rt.stdin())
+    };
+    if ended == Err(Stop::NoMemory) {
+        let _ = eprintln!(&rt;
+            "dock: there is no memory for the replay: end other programs and start again"
+        );
     }
 }
