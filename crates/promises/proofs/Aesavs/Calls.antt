@@ -5,7 +5,7 @@ use Prim.Native.Nat.{◌+◌}
 use Rattle.modes_answer.specs.Answers.{mode_number}
 use Rattle.modes.specs.Calls.{mode_answer}
 use Rattle.modes.proofs.Calls.{kept}
-use Rattle.std.specs.Prelude.{None, Option, Result, Unit}
+use Rattle.std.specs.Prelude.{None, Option, Result}
 use Rattle.text_lines.specs.declared.Gathered.{Gathered}
 use Rattle.text_lines.proofs.Laws.{too_long_keeps}
 use Rattle.aesavs_record.specs.Records.{between, next_line}
