@@ -59,6 +59,9 @@ use Rattle.image_block_judge.proofs.judge.Reads as judge
 use Rattle.image_block_open.proofs.open_block.Reads as open_block
 use Rattle.image_block_seal.proofs.seal.Reads as seal
 use Rattle.image_reader_tally.proofs.BlocksRead.none.Reads as none_read
+use Rattle.image_spec.proofs.KeyPair.none.Reads as no-keys
+use Rattle.image_spec.proofs.KeyPair.expand.Reads as pair_expand
+use Rattle.image_spec.proofs.KeyPair.is_usable.Reads as pair_usable
 use Rattle.image_reader_tally.proofs.may_ask.Reads as may_ask
 use Rattle.image_reader_tally.proofs.after_block.Reads as after_block
 use Rattle.image_reader.proofs.read_start.Reads as read_start
@@ -248,6 +251,25 @@ none_read_asks_nothing κs a = tt
 
 pub none_read_determined : (κs : _) (a : _) (r r' : _) (s s' : _) → none_read.Post κs a r s → none_read.Post κs a r' s' → r ≡ r'
 none_read_determined κs a r r' s s' p q = p ∙ sym q
+
+pub no_keys_asks_nothing : (κs : _) (a : _) → no-keys.Asked κs a
+no_keys_asks_nothing κs a = tt
+
+pub no_keys_determined : (κs : _) (a : _) (r r' : _) (s s' : _) → no-keys.Post κs a r s → no-keys.Post κs a r' s' → r ≡ r'
+no_keys_determined κs a r r' s s' p q = p ∙ sym q
+
+pub pair_expand_asks_nothing : (κs : _) (a : _) → pair_expand.Asked κs a
+pair_expand_asks_nothing κs a = tt
+
+-- exception: image_spec::KeyPair::expand: it writes both schedules, that of no key for a key that is refused, and what was there plays no part
+pub pair_expand_determined : (κs : _) (a : _) (r r' : _) (s s' : _) → pair_expand.Post κs a r s → pair_expand.Post κs a r' s' → (r ≡ r') × (s.0.now ≡ s'.0.now)
+pair_expand_determined κs a r r' s s' p q = (p.0 ∙ sym q.0, p.1 ∙ sym q.1)
+
+pub pair_usable_asks_nothing : (κs : _) (a : _) → pair_usable.Asked κs a
+pair_usable_asks_nothing κs a = tt
+
+pub pair_usable_determined : (κs : _) (a : _) (r r' : _) (s s' : _) → pair_usable.Post κs a r s → pair_usable.Post κs a r' s' → r ≡ r'
+pair_usable_determined κs a r r' s s' p q = p ∙ sym q
 
 pub may_ask_asks_nothing : (κs : _) (a : _) → may_ask.Asked κs a
 may_ask_asks_nothing κs a = tt
