@@ -9,7 +9,7 @@ use std::alloc::{AllocError, Global};
 use std::io;
 use streams::{Lines, Told};
 
-// The bytes that the answers to a part of the input may take: one has at most 32, and more than two such parts make none longer.
+// Room for the answers that wait, asked for before anything is read.
 const ROOM: usize = 8192;
 
 #[derive(Drop)]
