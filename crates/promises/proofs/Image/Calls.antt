@@ -59,6 +59,7 @@ use Rattle.image_block_judge.proofs.judge.Reads as judge
 use Rattle.image_block_open.proofs.open_block.Reads as open_block
 use Rattle.image_block_seal.proofs.seal.Reads as seal
 use Rattle.image_reader_tally.proofs.BlocksRead.none.Reads as none_read
+use Rattle.image_progress.proofs.Progress.start.Reads as progress_start
 use Rattle.image_spec.proofs.KeyPair.none.Reads as no-keys
 use Rattle.image_spec.proofs.KeyPair.expand.Reads as pair_expand
 use Rattle.image_spec.proofs.KeyPair.is_usable.Reads as pair_usable
@@ -251,6 +252,12 @@ none_read_asks_nothing κs a = tt
 
 pub none_read_determined : (κs : _) (a : _) (r r' : _) (s s' : _) → none_read.Post κs a r s → none_read.Post κs a r' s' → r ≡ r'
 none_read_determined κs a r r' s s' p q = p ∙ sym q
+
+pub progress_start_asks_nothing : (κs : _) (a : _) → progress_start.Asked κs a
+progress_start_asks_nothing κs a = tt
+
+pub progress_start_determined : (κs : _) (a : _) (r r' : _) (s s' : _) → progress_start.Post κs a r s → progress_start.Post κs a r' s' → r ≡ r'
+progress_start_determined κs a r r' s s' p q = p ∙ sym q
 
 pub no_keys_asks_nothing : (κs : _) (a : _) → no-keys.Asked κs a
 no_keys_asks_nothing κs a = tt
