@@ -5,6 +5,7 @@ use Rattle.image_layout.specs.Layout.{block_size, check_at}
 use Rattle.image_view.specs.declared.ViewAnswer.{ViewAnswer}
 use Rattle.image_view.specs.declared.ViewRefusal.{ViewRefusal}
 use Rattle.image_view.specs.declared.ViewRefusal.TheVariants.{NotWhole, NoBlock}
+use Rattle.image_view.specs.declared.Refused.{Refused}
 
 -- ---- the refusals
 
@@ -14,9 +15,18 @@ refusal_number NotWhole = 6
 refusal_number NoBlock = 20
 
 -- 0 if there is none
-abbrev pub answer_number : {A : Type 0} → Result A ViewRefusal → ℕ
+abbrev pub number_of : Option ViewRefusal → ℕ
+number_of None = 0
+number_of (Some e) = refusal_number e
+
+abbrev pub answer_number : {A : Type 0} → Result A (Refused A) → ℕ
 answer_number (Ok a) = 0
-answer_number (Err e) = refusal_number e
+answer_number (Err e) = refusal_number e.refusal
+
+-- what is held or shown, refused or not
+abbrev pub answer_value : {A : Type 0} → Result A (Refused A) → A
+answer_value (Ok a) = a
+answer_value (Err e) = e.empty
 
 -- ---- what a view holds
 
