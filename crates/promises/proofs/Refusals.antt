@@ -127,6 +127,8 @@ use Rattle.image_block_judge.proofs.judge.Reads as judge
 use Rattle.image_reader.proofs.read_complete.Reads as read_complete
 use Rattle.wrap.proofs.wrap.Reads as wrap
 use Rattle.wrap.proofs.unwrap.Reads as unwrap
+use Rattle.image_view.proofs.made_number.Reads as made-number
+use Rattle.image_view.proofs.shown_number.Reads as shown-number
 use Rattle.image_view.proofs.View.of.Reads as view-of
 use Rattle.image_view.proofs.View.block.Reads as view-block
 use Rattle.image_view.proofs.View.check.Reads as view-check
@@ -349,6 +351,8 @@ pub data Gives : Row → ℕ → Type 0 where
   by_read_resume : (κs : _) (a : _) (r : _) (s : _) → read_resume.Post κs a r s → Gives resuming (resume_number r.answer)
   by_wrap : (κs : _) (a : _) (r : _) (s : _) → wrap.Post κs a r s → Gives wrapping (wrap_number r)
   by_unwrap : (κs : _) (a : _) (r : _) (s : _) → unwrap.Post κs a r s → Gives unwrapping (wrap_number r)
+  by_made_number : (κs : _) (a : _) (r : _) (s : _) → made-number.Post κs a r s → Gives viewing r
+  by_shown_number : (κs : _) (a : _) (r : _) (s : _) → shown-number.Post κs a r s → Gives showing r
   by_view_of : (κs : _) (a : _) (r : _) (s : _) → view-of.Post κs a r s → Gives viewing (answer_number r)
   by_view_block : (κs : _) (a : _) (r : _) (s : _) → view-block.Post κs a r s → Gives showing (answer_number r)
   by_view_check : (κs : _) (a : _) (r : _) (s : _) → view-check.Post κs a r s → Gives showing (answer_number r)
@@ -604,6 +608,8 @@ no_call_gives_another c n (by_receive_complete κs a r s p) = found _ _ (of_comp
 no_call_gives_another c n (by_read_resume κs a r s p) = found _ _ (of_resume r.answer)
 no_call_gives_another c n (by_wrap κs a r s p) = found _ _ (of_wrap r (wrap_as_told κs a r s p).1)
 no_call_gives_another c n (by_unwrap κs a r s p) = found _ _ (of_unwrap r)
+no_call_gives_another c n (by_made_number κs a r s p) = found (0 ∷ order viewing) r (rw p (of_made _))
+no_call_gives_another c n (by_shown_number κs a r s p) = found (0 ∷ order showing) r (rw p (of_shown _ a.1.0))
 no_call_gives_another c n (by_view_of κs a r s p) = found (0 ∷ order viewing) (answer_number r) (rw p.0 (of_made _))
 no_call_gives_another c n (by_view_block κs a r s p) = found (0 ∷ order showing) (answer_number r) (rw p.0 (of_shown _ a.1.0))
 no_call_gives_another c n (by_view_check κs a r s p) = found (0 ∷ order showing) (answer_number r) (rw p.0 (of_shown _ a.1.0))

@@ -1,25 +1,32 @@
 -- Request E12: what a view of a stored image holds and shows, and by which numbers it refuses; then demand 1 for its calls. Assumes nothing.
 use mathlib.Core.Path.{◌≡◌, refl, sym, ap, subst, ◌∙◌}
-use mathlib.Core.List.{List, []}
+use mathlib.Core.List.{List, [], Mem}
 use mathlib.Core.Logic.{◌⊎◌, inl, inr}
 use Prim.Native.Nat.{ℕ, zero, suc, ◌+◌, ◌*◌, ◌/◌, ◌%◌, ◌<◌, ◌≤◌}
 use native.Mathlib.Omega.{arith}
+use contract.Lifetimes.{Lfts}
 use denote.Ref.{Bor}
+use denote.RattleType.{RattleType}
 use Rattle.std.specs.Prelude.{Result, Ok, Err}
-use Rattle.std.specs.Result.{IsOkAnd, IfOk}
+use Rattle.std.specs.Result.{IsOkAnd, IsErrAnd}
 use lib.ListN.{length, take, drop, get_or}
 use lib.Seq.{drop-drop}
 use Rattle.octets.proofs.Xor.{lt_or_le}
 use Rattle.image_reader_turn.specs.Turn.{cut, handled}
-use Rattle.image_view.specs.Views.{refusal_number, answer_number, made_number, held_of, held_length, shown_number, part_of, block_shown, check_shown, offset_of, Within, answer_of, block_answer, check_answer}
+use Rattle.image_view.specs.Views.{refusal_number, answer_number, answer_value, made_number, held_of, held_length, shown_number, part_of, block_shown, check_shown, offset_of, Within, answer_of, block_answer, check_answer}
 use Rattle.image_view.specs.declared.ViewAnswer.{ViewAnswer}
 use Rattle.image_view.specs.declared.View.{View}
+use Rattle.image_view.specs.declared.Refused.{Refused}
 use Rattle.image_view.specs.declared.ViewRefusal.{ViewRefusal}
 use Rattle.image_view.specs.declared.ViewRefusal.TheVariants.{NotWhole, NoBlock}
 use Rattle.image_view.proofs.Pins as pins
 use Rattle.promises.proofs.Image.Words.{given}
 use Rattle.image_view.proofs.ViewRefusal.number.Reads as refusal-number
+use Rattle.image_view.proofs.with_number.Reads as with-number
+use Rattle.image_view.proofs.made_number.Reads as made-number
+use Rattle.image_view.proofs.held.Reads as held
 use Rattle.image_view.proofs.blocks.Reads as blocks
+use Rattle.image_view.proofs.shown_number.Reads as shown-number
 use Rattle.image_view.proofs.block_part.Reads as block_part
 use Rattle.image_view.proofs.check_part.Reads as check_part
 use Rattle.image_view.proofs.block_answer.Reads as block-answer
@@ -143,11 +150,60 @@ refusal_number_determined κs a r r' s s' p q = p ∙ sym q
 pub refusal_numbers : (refusal_number NotWhole ≡ 6) × (refusal_number NoBlock ≡ 20)
 refusal_numbers = (refl, refl)
 
+-- of any type; as every function over a type, it asks that what a value borrows is lent while the call runs
+pub with_number_asks_nothing : (g : RattleType) (m : _) (κs : Lfts 1) (a : _) → ((k : ℕ) → Mem k g.lives → Mem k κs.0) → with-number.Asked g m κs a
+with_number_asks_nothing g m κs a lent = lent
+
+pub with_number_determined : (g m κs : _) (a : _) (r r' : _) (s s' : _) → with-number.Post g m κs a r s → with-number.Post g m κs a r' s' → (r.0 ≡ r'.0) × (r.1 ≡ r'.1)
+with_number_determined g m κs a r r' s s' p q = (p.0 ∙ sym q.0, p.1 ∙ sym q.1)
+
+pub made_number_asks_nothing : (κs : _) (a : _) → made-number.Asked κs a
+made_number_asks_nothing κs a = tt
+
+pub made_number_determined : (κs : _) (a : _) (r r' : _) (s s' : _) → made-number.Post κs a r s → made-number.Post κs a r' s' → r ≡ r'
+made_number_determined κs a r r' s s' p q = p ∙ sym q
+
+-- 6 where the length is no multiple of 512, and 0 where it is one
+pub made_number_as_told : (κs : _) (a : _) (r : _) (s : _) → made-number.Post κs a r s → ((r ≡ 0) × (length a.0.now % 512 ≡ 0)) ⊎ ((r ≡ 6) × (length a.0.now % 512 ≡ 0 → ⊥))
+made_number_as_told κs a r s p = go (length a.0.now % 512) refl
+  where
+    go : (m : ℕ) → length a.0.now % 512 ≡ m → ((r ≡ 0) × (length a.0.now % 512 ≡ 0)) ⊎ ((r ≡ 6) × (length a.0.now % 512 ≡ 0 → ⊥))
+    go zero e = inl (p ∙ pins.made_of_whole _ e, e)
+    go (suc m) e = let h : length a.0.now % 512 ≡ 0 → ⊥ = λ z. omega (arith, e, z) in inr (p ∙ pins.made_of_odd _ h, h)
+
+pub made_number_done : (κs : _) (a : _) (r : _) (s : _) → made-number.Post κs a r s → length a.0.now % 512 ≡ 0 → r ≡ 0
+made_number_done κs a r s p e = p ∙ pins.made_of_whole _ e
+
+pub held_asks_nothing : (κs : _) (a : _) → held.Asked κs a
+held_asks_nothing κs a = tt
+
+pub held_determined : (κs : _) (a : _) (r r' : _) (s s' : _) → held.Post κs a r s → held.Post κs a r' s' → Same r r'
+held_determined κs a r r' s s' p q = (p.0 ∙ sym q.0, p.1.0 ∙ sym q.1.0, p.1.1 ∙ sym q.1.1)
+
 pub blocks_asks_nothing : (κs : _) (a : _) → blocks.Asked κs a
 blocks_asks_nothing κs a = tt
 
 pub blocks_determined : (κs : _) (a : _) (r r' : _) (s s' : _) → blocks.Post κs a r s → blocks.Post κs a r' s' → r ≡ r'
 blocks_determined κs a r r' s s' p q = p ∙ sym q
+
+pub shown_number_asks_nothing : (κs : _) (a : _) → shown-number.Asked κs a
+shown_number_asks_nothing κs a = tt
+
+pub shown_number_determined : (κs : _) (a : _) (r r' : _) (s s' : _) → shown-number.Post κs a r s → shown-number.Post κs a r' s' → r ≡ r'
+shown_number_determined κs a r r' s s' p q = p ∙ sym q
+
+-- 20 where the place is not below the number of blocks, and 0 where it is
+pub shown_number_as_told : (κs : _) (a : _) (r : _) (s : _) → shown-number.Post κs a r s
+    → ((r ≡ 0) × (a.1.0 < length a.0.now / 512)) ⊎ ((r ≡ 20) × (length a.0.now / 512 ≤ a.1.0))
+shown_number_as_told κs a r s p = go (lt_or_le a.1.0 (length a.0.now / 512))
+  where
+    go : (a.1.0 < length a.0.now / 512) ⊎ (length a.0.now / 512 ≤ a.1.0)
+        → ((r ≡ 0) × (a.1.0 < length a.0.now / 512)) ⊎ ((r ≡ 20) × (length a.0.now / 512 ≤ a.1.0))
+    go (inl l) = inl (p ∙ pins.shown_below _ a.1.0 l, l)
+    go (inr l) = inr (p ∙ pins.shown_past _ a.1.0 l, l)
+
+pub shown_number_done : (κs : _) (a : _) (r : _) (s : _) → shown-number.Post κs a r s → a.1.0 < length a.0.now / 512 → r ≡ 0
+shown_number_done κs a r s p l = p ∙ pins.shown_below _ a.1.0 l
 
 pub block_part_asks_nothing : (κs : _) (a : _) → block_part.Asked κs a
 block_part_asks_nothing κs a = tt
@@ -202,44 +258,51 @@ dock_view_check_as_told κs a r s p = subst (λ (x : ViewAnswer). AsTold a.0 a.1
 
 -- ---- the view itself
 
--- both refused by the same, or both with parts of which that holds
-abbrev pub SameAnswer : {A : Type 0} → (A → A → Type 0) → (r r' : Result A ViewRefusal) → Type 0
+-- both refused by the same, or neither, and of what both hold or show that holds
+abbrev pub SameAnswer : {A : Type 0} → (A → A → Type 0) → (r r' : Result A (Refused A)) → Type 0
 SameAnswer R (Ok x) (Ok y) = R x y
 SameAnswer R (Ok x) (Err f) = ⊥
 SameAnswer R (Err e) (Ok y) = ⊥
-SameAnswer R (Err e) (Err f) = e ≡ f
+SameAnswer R (Err e) (Err f) = (e.refusal ≡ f.refusal) × R e.empty f.empty
+
+some_number : (f : ViewRefusal) → refusal_number f ≡ 0 → ⊥
+some_number NotWhole e = omega (arith, e)
+some_number NoBlock e = omega (arith, e)
+
+with_6 : (f : ViewRefusal) → refusal_number f ≡ 6 → f ≡ NotWhole
+with_6 NotWhole e = refl
+with_6 NoBlock e = absurd (omega (arith, e))
+
+with_20 : (f : ViewRefusal) → refusal_number f ≡ 20 → f ≡ NoBlock
+with_20 NotWhole e = absurd (omega (arith, e))
+with_20 NoBlock e = refl
+
+same_refusal : (f g : ViewRefusal) → refusal_number f ≡ refusal_number g → f ≡ g
+same_refusal NotWhole g e = sym (with_6 g (sym e))
+same_refusal NoBlock g e = sym (with_20 g (sym e))
 
 module _ {A : Type 0} where
-  by_6 : (r : Result A ViewRefusal) → answer_number r ≡ 6 → r ≡ Err NotWhole
-  by_6 (Ok x) e = absurd (omega (arith, e))
-  by_6 (Err NotWhole) e = refl
-  by_6 (Err NoBlock) e = absurd (omega (arith, e))
+  by_0 : (r : Result A (Refused A)) (P : A → Type 0) → answer_number r ≡ 0 → P (answer_value r) → IsOkAnd r P
+  by_0 (Ok x) P n h = h
+  by_0 (Err e) P n h = absurd (some_number e.refusal n)
 
-  by_20 : (r : Result A ViewRefusal) → answer_number r ≡ 20 → r ≡ Err NoBlock
-  by_20 (Ok x) e = absurd (omega (arith, e))
-  by_20 (Err NotWhole) e = absurd (omega (arith, e))
-  by_20 (Err NoBlock) e = refl
+  by_6 : (r : Result A (Refused A)) (P : A → Type 0) → answer_number r ≡ 6 → P (answer_value r) → IsErrAnd r (λ e. (e.refusal ≡ NotWhole) × P e.empty)
+  by_6 (Ok x) P n h = absurd (omega (arith, n))
+  by_6 (Err e) P n h = (with_6 e.refusal n, h)
 
-  by_0 : (r : Result A ViewRefusal) (P : A → Type 0) → answer_number r ≡ 0 → IfOk r P → IsOkAnd r P
-  by_0 (Ok x) P e h = h
-  by_0 (Err NotWhole) P e h = absurd (omega (arith, e))
-  by_0 (Err NoBlock) P e h = absurd (omega (arith, e))
+  by_20 : (r : Result A (Refused A)) (P : A → Type 0) → answer_number r ≡ 20 → P (answer_value r) → IsErrAnd r (λ e. (e.refusal ≡ NoBlock) × P e.empty)
+  by_20 (Ok x) P n h = absurd (omega (arith, n))
+  by_20 (Err e) P n h = (with_20 e.refusal n, h)
 
-  same_answer : (R : A → A → Type 0) (P : A → Type 0) → ((x y : A) → P x → P y → R x y)
-      → (r r' : Result A ViewRefusal) → answer_number r ≡ answer_number r' → IfOk r P → IfOk r' P → SameAnswer R r r'
-  same_answer R P f (Ok x) (Ok y) e h k = f x y h k
-  same_answer R P f (Ok x) (Err NotWhole) e h k = absurd (omega (arith, e))
-  same_answer R P f (Ok x) (Err NoBlock) e h k = absurd (omega (arith, e))
-  same_answer R P f (Err NotWhole) (Ok y) e h k = absurd (omega (arith, e))
-  same_answer R P f (Err NoBlock) (Ok y) e h k = absurd (omega (arith, e))
-  same_answer R P f (Err NotWhole) (Err NotWhole) e h k = refl
-  same_answer R P f (Err NotWhole) (Err NoBlock) e h k = absurd (omega (arith, e))
-  same_answer R P f (Err NoBlock) (Err NotWhole) e h k = absurd (omega (arith, e))
-  same_answer R P f (Err NoBlock) (Err NoBlock) e h k = refl
+  same_answer : (R : A → A → Type 0) (r r' : Result A (Refused A)) → answer_number r ≡ answer_number r' → R (answer_value r) (answer_value r') → SameAnswer R r r'
+  same_answer R (Ok x) (Ok y) n h = h
+  same_answer R (Ok x) (Err f) n h = some_number f.refusal (sym n)
+  same_answer R (Err e) (Ok y) n h = some_number e.refusal n
+  same_answer R (Err e) (Err f) n h = (same_refusal e.refusal f.refusal n, h)
 
--- what the contracts of `of` and of the two others say of a view and of a part
-abbrev pub Holds : (s : Bor (List ℕ)) (v : View) → Type 0
-Holds s v = (v.image.now ≡ s.now) × Within v.image s 0
+-- what the contracts of `of` and of the two others say of the view that is given, and of the part that is
+abbrev pub Held : (s : Bor (List ℕ)) (v : View) → Type 0
+Held s v = (v.image.now ≡ held_of s.now) × Within v.image s 0
 
 abbrev pub Shows : (from size : ℕ) (v : View) (place : ℕ) (part : Bor (List ℕ)) → Type 0
 Shows from size v place part = (part.now ≡ part_of from size v.image.now place) × Within part v.image (offset_of from (length v.image.now) place)
@@ -247,9 +310,10 @@ Shows from size v place part = (part.now ≡ part_of from size v.image.now place
 pub of_asks_nothing : (κs : _) (a : _) → of.Asked κs a
 of_asks_nothing κs a = tt
 
+-- what a refused view holds too
 pub of_determined : (κs : _) (a : _) (r r' : _) (s s' : _) → of.Post κs a r s → of.Post κs a r' s' → SameAnswer (λ (v w : View). Same v.image w.image) r r'
 of_determined κs a r r' s s' p q =
-    same_answer (λ (v w : View). Same v.image w.image) (Holds a.0) (λ v w h k. (h.0 ∙ sym k.0, h.1.0 ∙ sym k.1.0, h.1.1 ∙ sym k.1.1)) r r' (p.0 ∙ sym q.0) p.1 q.1
+    same_answer (λ (v w : View). Same v.image w.image) r r' (p.0 ∙ sym q.0) (p.1.1.0 ∙ sym q.1.1.0, p.1.1.1.0 ∙ sym q.1.1.1.0, p.1.1.1.1 ∙ sym q.1.1.1.1)
 
 same_parts : (from size : ℕ) (v : View) (place : ℕ) (p q : Bor (List ℕ)) → Shows from size v place p → Shows from size v place q → Same p q
 same_parts from size v place p q h k = (h.0 ∙ sym k.0, h.1.0 ∙ sym k.1.0, h.1.1 ∙ sym k.1.1)
@@ -259,35 +323,42 @@ block_asks_nothing κs a = tt
 
 pub block_determined : (κs : _) (a : _) (r r' : _) (s s' : _) → block.Post κs a r s → block.Post κs a r' s' → SameAnswer Same r r'
 block_determined κs a r r' s s' p q =
-    same_answer Same (Shows 0 512 a.0 a.1.0) (same_parts 0 512 a.0 a.1.0) r r' (p.0 ∙ sym q.0) p.1 q.1
+    same_answer Same r r' (p.0 ∙ sym q.0) (same_parts 0 512 a.0 a.1.0 (answer_value r) (answer_value r') p.1 q.1)
 
 pub check_asks_nothing : (κs : _) (a : _) → check.Asked κs a
 check_asks_nothing κs a = tt
 
 pub check_determined : (κs : _) (a : _) (r r' : _) (s s' : _) → check.Post κs a r s → check.Post κs a r' s' → SameAnswer Same r r'
 check_determined κs a r r' s s' p q =
-    same_answer Same (Shows 496 16 a.0 a.1.0) (same_parts 496 16 a.0 a.1.0) r r' (p.0 ∙ sym q.0) p.1 q.1
+    same_answer Same r r' (p.0 ∙ sym q.0) (same_parts 496 16 a.0 a.1.0 (answer_value r) (answer_value r') p.1 q.1)
 
--- 6 exactly where the length is no multiple of 512, else a view of the image
-abbrev pub OfSays : (s : Bor (List ℕ)) (r : Result View ViewRefusal) → Type 0
-OfSays s r = (length s.now % 512 ≡ 0 → IsOkAnd r (Holds s)) × ((length s.now % 512 ≡ 0 → ⊥) → r ≡ Err NotWhole)
+-- a view holds these bytes, from the start of the lent image on
+abbrev pub Holds : (s : Bor (List ℕ)) (bytes : List ℕ) (v : View) → Type 0
+Holds s bytes v = (v.image.now ≡ bytes) × Within v.image s 0
+
+-- 6 and an empty image exactly where the length is no multiple of 512, else a view of the image
+abbrev pub OfSays : (s : Bor (List ℕ)) (r : Result View (Refused View)) → Type 0
+OfSays s r = (length s.now % 512 ≡ 0 → IsOkAnd r (Holds s s.now))
+    × ((length s.now % 512 ≡ 0 → ⊥) → IsErrAnd r (λ e. (e.refusal ≡ NotWhole) × Holds s [] e.empty))
 
 pub of_as_told : (κs : _) (a : _) (r : _) (s : _) → of.Post κs a r s → OfSays a.0 r
 of_as_told κs a r s p = (
-  (λ w. by_0 r (Holds a.0) (p.0 ∙ pins.made_of_whole _ w) p.1),
-  (λ h. by_6 r (p.0 ∙ pins.made_of_odd _ h)),
+  (λ w. by_0 r (Holds a.0 a.0.now) (p.0 ∙ pins.made_of_whole _ w) (p.1.1.0 ∙ pins.held_of_whole a.0.now w, p.1.1.1)),
+  (λ h. by_6 r (Holds a.0 []) (p.0 ∙ pins.made_of_odd _ h) (p.1.1.0 ∙ pins.held_of_odd a.0.now h, p.1.1.1)),
 )
 
--- 20 where the place is not below the number of blocks, else this part
-abbrev pub ShownSays : (v : View) (place : ℕ) (part : List ℕ) (r : Result (Bor (List ℕ)) ViewRefusal) → Type 0
-ShownSays v place part r = (place < length v.image.now / 512 → IsOkAnd r (λ p. p.now ≡ part)) × (length v.image.now / 512 ≤ place → r ≡ Err NoBlock)
+-- 20 and nothing where the place is not below the number of blocks, else this part
+abbrev pub ShownSays : (v : View) (place : ℕ) (part : List ℕ) (r : Result (Bor (List ℕ)) (Refused (Bor (List ℕ)))) → Type 0
+ShownSays v place part r = (place < length v.image.now / 512 → IsOkAnd r (λ p. p.now ≡ part))
+    × (length v.image.now / 512 ≤ place → IsErrAnd r (λ e. (e.refusal ≡ NoBlock) × (e.empty.now ≡ [])))
 
-shown_says : (from size : ℕ) (v : View) (place : ℕ) (part : List ℕ) (r : Result (Bor (List ℕ)) ViewRefusal)
-    → answer_number r ≡ shown_number (length v.image.now) place → IfOk r (Shows from size v place) → (place < length v.image.now / 512 → part_of from size v.image.now place ≡ part)
+shown_says : (from size : ℕ) (v : View) (place : ℕ) (part : List ℕ) (r : Result (Bor (List ℕ)) (Refused (Bor (List ℕ))))
+    → answer_number r ≡ shown_number (length v.image.now) place → Shows from size v place (answer_value r) → (place < length v.image.now / 512 → part_of from size v.image.now place ≡ part)
     → ShownSays v place part r
-shown_says from size v place part (Ok p) n h e = ((λ l. h.0 ∙ e l), (λ l. absurd (omega (arith, n, pins.shown_past _ place l))))
-shown_says from size v place part (Err f) n h e =
-    ((λ l. by_0 (Err f) (λ (p : Bor (List ℕ)). p.now ≡ part) (n ∙ pins.shown_below _ place l) tt), (λ l. by_20 (Err f) (n ∙ pins.shown_past _ place l)))
+shown_says from size v place part r n h e = (
+  (λ l. by_0 r (λ (p : Bor (List ℕ)). p.now ≡ part) (n ∙ pins.shown_below _ place l) (h.0 ∙ e l)),
+  (λ l. by_20 r (λ (p : Bor (List ℕ)). p.now ≡ []) (n ∙ pins.shown_past _ place l) (h.0 ∙ pins.nothing_past from size v.image.now place l)),
+)
 
 pub block_as_told : (κs : _) (a : _) (r : _) (s : _) → block.Post κs a r s → ShownSays a.0 a.1.0 (take 512 (drop (a.1.0 * 512) a.0.image.now)) r
 block_as_told κs a r s p =
@@ -297,48 +368,36 @@ pub check_as_told : (κs : _) (a : _) (r : _) (s : _) → check.Post κs a r s �
 check_as_told κs a r s p =
     shown_says 496 16 a.0 a.1.0 _ r p.0 p.1 (λ l. pins.check_below a.0.image.now a.1.0 l ∙ ap (drop 496) (pins.block_below a.0.image.now a.1.0 l))
 
--- ---- a view that `of` made shows the part of the lent image itself, no copy, that the numbers name
+-- ---- the view that `of` gives, refused or not, shows the part of the lent image itself, no copy, that the numbers name
 
--- what the numbers name: whether there is a view, and of a view, whether there is such a block, and the part
-abbrev pub Named : (s : Bor (List ℕ)) (m : Result View ViewRefusal) (r : Result (Bor (List ℕ)) ViewRefusal) (a : ViewAnswer) → Type 0
-Named s m r a = (answer_number m ≡ a.made) × (answer_number r ≡ a.number) × IfOk r (λ p. (p.now ≡ take a.length (drop a.offset s.now)) × Within p s a.offset)
+-- what the numbers name: whether the image is refused, whether there is no such block, and the part, which is empty where one of them is so
+abbrev pub Named : (s : Bor (List ℕ)) (m : Result View (Refused View)) (r : Result (Bor (List ℕ)) (Refused (Bor (List ℕ)))) (a : ViewAnswer) → Type 0
+Named s m r a = (answer_number m ≡ a.made) × (answer_number r ≡ a.number) × ((answer_value r).now ≡ take a.length (drop a.offset s.now)) × Within (answer_value r) s a.offset
 
 pub view_is_made_as_named : (κs : _) (a : _) (m : _) (e : _) (from size place : ℕ) → of.Post κs a m e → answer_number m ≡ (answer_of from size (length a.0.now) place).made
 unfolding answer_of
 view_is_made_as_named κs a m e from size place p = p.0
 
-named : (from size : ℕ) (s : Bor (List ℕ)) (v : View) (place : ℕ) (r : Result (Bor (List ℕ)) ViewRefusal)
-    → 0 ≡ made_number (length s.now) → Holds s v → answer_number r ≡ shown_number (length v.image.now) place → IfOk r (Shows from size v place)
-    → Named s (Ok v) r (answer_of from size (length s.now) place)
-named from size s v place r made h number shows =
+named : (from size : ℕ) (s : Bor (List ℕ)) (m : Result View (Refused View)) (place : ℕ) (r : Result (Bor (List ℕ)) (Refused (Bor (List ℕ))))
+    → answer_number m ≡ made_number (length s.now) → Held s (answer_value m)
+    → answer_number r ≡ shown_number (length (answer_value m).image.now) place → Shows from size (answer_value m) place (answer_value r)
+    → Named s m r (answer_of from size (length s.now) place)
+named from size s m place r made h number b =
     let n = numbers_of_a_view from size s.now place in
-    let w : length s.now % 512 ≡ 0 = whole_of_0 (length s.now) (sym made) in
-    let e : v.image.now ≡ held_of s.now = h.0 ∙ sym (pins.held_of_whole s.now w) in
-    let o : offset_of from (length v.image.now) place ≡ (answer_of from size (length s.now) place).offset = ap (λ (t : List ℕ). offset_of from (length t) place) e ∙ sym n.3 in
-    (made ∙ sym n.0, number ∙ ap (λ (t : List ℕ). shown_number (length t) place) e ∙ sym n.2, part r shows e o)
-  where
-    whole_of_0 : (n : ℕ) → made_number n ≡ 0 → n % 512 ≡ 0
-    whole_of_0 n z = by (n % 512) refl
-      where
-        by : (m : ℕ) → n % 512 ≡ m → n % 512 ≡ 0
-        by zero q = q
-        by (suc m) q = absurd (omega (arith, z, pins.made_of_odd n (λ k. omega (arith, k, q))))
-
-    part : (r : Result (Bor (List ℕ)) ViewRefusal) → IfOk r (Shows from size v place) → v.image.now ≡ held_of s.now
-        → offset_of from (length v.image.now) place ≡ (answer_of from size (length s.now) place).offset
-        → IfOk r (λ p. (p.now ≡ take (answer_of from size (length s.now) place).length (drop (answer_of from size (length s.now) place).offset s.now)) × Within p s (answer_of from size (length s.now) place).offset)
-    part (Ok p) b e o = (
+    let e = h.0 in
+    let o : offset_of from (length (answer_value m).image.now) place ≡ (answer_of from size (length s.now) place).offset = ap (λ (t : List ℕ). offset_of from (length t) place) e ∙ sym n.3 in (
+      made ∙ sym n.0,
+      number ∙ ap (λ (t : List ℕ). shown_number (length t) place) e ∙ sym n.2,
       b.0 ∙ ap (λ (t : List ℕ). part_of from size t place) e ∙ sym (pins.answer_shows from size s.now place),
       (b.1.0 ∙ h.1.0, omega (arith, b.1.1, h.1.1, o)),
     )
-    part (Err f) b e o = tt
 
-pub view_shows_the_block : (κs κs' : _) (s : Bor (List ℕ)) (place : ℕ) (v : View) (r : _) (e e' : _)
-    → of.Post κs (s, tt) (Ok v) e → block.Post κs' (v, (place, tt)) r e' → Named s (Ok v) r (block_answer (length s.now) place)
-view_shows_the_block κs κs' s place v r e e' p q =
-    named 0 512 s v place r p.0 p.1 q.0 q.1
+pub view_shows_the_block : (κs κs' : _) (s : Bor (List ℕ)) (place : ℕ) (m : Result View (Refused View)) (r : _) (e e' : _)
+    → of.Post κs (s, tt) m e → block.Post κs' (answer_value m, (place, tt)) r e' → Named s m r (block_answer (length s.now) place)
+view_shows_the_block κs κs' s place m r e e' p q =
+    named 0 512 s m place r p.0 p.1.1 q.0 q.1
 
-pub view_shows_the_check : (κs κs' : _) (s : Bor (List ℕ)) (place : ℕ) (v : View) (r : _) (e e' : _)
-    → of.Post κs (s, tt) (Ok v) e → check.Post κs' (v, (place, tt)) r e' → Named s (Ok v) r (check_answer (length s.now) place)
-view_shows_the_check κs κs' s place v r e e' p q =
-    named 496 16 s v place r p.0 p.1 q.0 q.1
+pub view_shows_the_check : (κs κs' : _) (s : Bor (List ℕ)) (place : ℕ) (m : Result View (Refused View)) (r : _) (e e' : _)
+    → of.Post κs (s, tt) m e → check.Post κs' (answer_value m, (place, tt)) r e' → Named s m r (check_answer (length s.now) place)
+view_shows_the_check κs κs' s place m r e e' p q =
+    named 496 16 s m place r p.0 p.1.1 q.0 q.1
