@@ -20,7 +20,7 @@ use answers::Answers;
 use held::Held;
 use std::io::{self, Read};
 use streams::Told;
-use text_lines::{gather, has_begun, no_line};
+use text_lines::{TooLong, gather, has_begun, no_line};
 use words::Words;
 
 const READ_FAILED: &str = "dock: standard input cannot be read";
@@ -33,12 +33,12 @@ const LONGEST_LINE: usize = 65536;
 // The bytes that the words of a line can stand for, two digits each.
 const MOST_BYTES: usize = LONGEST_LINE / 2;
 
-// The line so far and its length, or `None` if it is too long; memory for the bytes of its words; what is held from line to line; and the
+// The line so far and its length, marked if it is too long; memory for the bytes of its words; what is held from line to line; and the
 // answers that wait. Nothing of such a size is cleared or copied for a line.
 #[derive(Drop)]
 struct Console {
     line: [u8; LONGEST_LINE],
-    len: Option<usize>,
+    len: Result<usize, TooLong>,
     bytes: [u8; MOST_BYTES],
     held: Held,
     answers: Answers,
@@ -107,7 +107,7 @@ impl Console {
 
     // The answer to the line, without its end. Nothing is put for a bad line, and nothing held changes.
     fn answer(&mut self) -> Option<()> {
-        let line = octets_slice::part(&self.line, 0, self.len?);
+        let line = octets_slice::part(&self.line, 0, self.len.ok()?);
         let mut words = Words::new(line, &mut self.bytes);
         calls::answer(&mut words, &mut self.answers, &mut self.held)
     }

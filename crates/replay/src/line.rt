@@ -1,13 +1,13 @@
 // The line so far, gathered from parts of the input.
 ghost use Rattle.std.specs.Prelude.{◌<◌, ◌≤◌, IfSome, length};
 
-use text_lines::{gather, has_begun, no_line};
+use text_lines::{TooLong, gather, has_begun, no_line};
 
 // The longest line, with a carriage return after it, and how much of one has come.
 #[derive(Drop)]
 pub struct LineSoFar {
     bytes: [u8; 4097],
-    len: Option<usize>,
+    len: Result<usize, TooLong>,
 }
 
 impl LineSoFar {
@@ -37,7 +37,7 @@ impl LineSoFar {
 
     // The bytes of the line, if it was not too long.
     pub fn bytes(&self) -> Option<&[u8]> {
-        let len = self.len?;
+        let len = self.len.ok()?;
         self.bytes.get(..len)
     }
 }

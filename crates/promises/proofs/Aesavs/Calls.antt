@@ -1,13 +1,18 @@
 -- Demand 1 for the calls that replay a response file, and what each of their answers says. Assumes nothing.
 use mathlib.Core.Path.{◌≡◌, sym, ap, ◌∙◌}
 use mathlib.Core.Bool.{true, false, not}
-use Prim.Native.Nat.{◌+◌}
+use Prim.Native.Nat.{ℕ, ◌+◌}
+use lib.Dec.{leb}
+use lib.ListN.{length}
+use Rattle.octets_slice.specs.Slices.{copied}
 use Rattle.modes_answer.specs.Answers.{mode_number}
 use Rattle.modes.specs.Calls.{mode_answer}
 use Rattle.modes.proofs.Calls.{kept}
-use Rattle.std.specs.Prelude.{None, Option, Result}
+use Rattle.std.specs.Prelude.{Option, Result, Ok, Err}
+use Rattle.text_lines.specs.Gathering.{line_in, len_of, gathered}
 use Rattle.text_lines.specs.declared.Gathered.{Gathered}
-use Rattle.text_lines.proofs.Laws.{too_long_keeps}
+use Rattle.text_lines.specs.declared.TooLong.{TooLong}
+use Rattle.text_lines.proofs.Laws.{too_long_keeps, no_longer_keeps}
 use Rattle.aesavs_record.specs.Records.{between, next_line}
 use Rattle.aesavs_record.specs.declared.Record.{Record}
 use Rattle.aesavs_record.specs.declared.Refused.{Refused}
@@ -51,9 +56,20 @@ gather_asks_nothing κs a = tt
 pub gather_determined : (κs : _) (a : _) (r r' : _) (s s' : _) → gather.Post κs a r s → gather.Post κs a r' s' → (r ≡ r') × (s.1.1.1.0.now ≡ s'.1.1.1.0.now)
 gather_determined κs a r r' s s' p q = (p.0 ∙ sym q.0, p.1 ∙ sym q.1)
 
--- a line that is too long leaves the memory as it was
-pub gather_refused_keeps : (κs : _) (a : _) (r : _) (s : _) → gather.Post κs a r s → r.line ≡ None → s.1.1.1.0.now ≡ a.1.1.1.0.now
-gather_refused_keeps κs a r s p e = p.1 ∙ too_long_keeps a.0 a.1.0.now a.1.1.0 a.1.1.1.0.now (ap (λ (g : Gathered). g.line) (sym p.0) ∙ e)
+-- a part that has no room behind the line so far, marked or not, leaves the memory as it was
+pub gather_refused_keeps : (κs : _) (a : _) (r : _) (s : _) → gather.Post κs a r s
+    → leb (len_of a.0 + length (line_in a.1.0.now a.1.1.0)) (length a.1.1.1.0.now) ≡ false → s.1.1.1.0.now ≡ a.1.1.1.0.now
+unfolding copied
+gather_refused_keeps κs a r s p e = p.1 ∙ rw e
+
+-- so does what makes a line too long, and what leaves a line as long as it was
+pub gather_too_long_keeps : (κs : _) (a : _) (r : _) (s : _) (n : ℕ) (e : TooLong) → gather.Post κs a r s → a.0 ≡ Ok n → r.line ≡ Err e → s.1.1.1.0.now ≡ a.1.1.1.0.now
+gather_too_long_keeps κs a r s n e p o h =
+    let q : (gathered (Ok n) a.1.0.now a.1.1.0 a.1.1.1.0.now).line ≡ Err e = ap (λ (l : Result ℕ TooLong). (gathered l a.1.0.now a.1.1.0 a.1.1.1.0.now).line) (sym o) ∙ ap (λ (g : Gathered). g.line) (sym p.0) ∙ h in
+    p.1 ∙ ap (λ (l : Result ℕ TooLong). copied (line_in a.1.0.now a.1.1.0) (len_of l) a.1.1.1.0.now) o ∙ too_long_keeps n e a.1.0.now a.1.1.0 a.1.1.1.0.now q
+
+pub gather_no_longer_keeps : (κs : _) (a : _) (r : _) (s : _) → gather.Post κs a r s → len_of r.line ≡ len_of a.0 → s.1.1.1.0.now ≡ a.1.1.1.0.now
+gather_no_longer_keeps κs a r s p e = p.1 ∙ no_longer_keeps a.0 a.1.0.now a.1.1.0 a.1.1.1.0.now (ap (λ (g : Gathered). len_of g.line) (sym p.0) ∙ e)
 
 pub read_line_asks_nothing : (κs : _) (a : _) → read_line.Asked κs a
 read_line_asks_nothing κs a = tt
