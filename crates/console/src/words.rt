@@ -1,35 +1,42 @@
 // The words of a line, taken one by one as what they stand for.
+ghost use Rattle.std.specs.Prelude.{◌≡◌, ◌↔◌, ◌+◌, IsSome, IfSome, MatchOption};
+ghost use Rattle.text_words.specs.Words.{word_of, rest_of, word_count};
+
+use octets_slice::part;
 use std::mem;
 
-// What is left of a line, and the memory that is left for the bytes of its words: each word of hex gets a part of its own, so that a
-// call can write into one while it reads the others. A word that is missing or does not fit what is asked for makes the line bad.
+// How many words of a line are left, and the line from the first of these on; and the memory that is left for their bytes: each word of
+// hex gets a part of its own, so that a call can write into one while it reads the others. A word that is missing or does not fit what
+// is asked for makes the line bad.
 #[derive(Drop)]
 pub struct Words<'a> {
-    rest: Option<&'a [u8]>,
+    left: usize,
+    rest: &'a [u8],
     memory: &'a mut [u8],
 }
 
 impl<'a> Words<'a> {
-    pub fn new(line: &'a [u8], memory: &'a mut [u8]) -> Words<'a> {
+    pub fn new(line: &'a [u8], memory: &'a mut [u8]) -> Words<'a>
+        ensures { (result.left ≡ word_count line.now) × (result.rest.now ≡ line.now) }
+    {
         Words {
-            rest: Some(line),
+            left: text_words::count(line),
+            rest: line,
             memory,
         }
     }
 
     // The next word as it stands in the line.
-    pub fn word(&mut self) -> Option<&'a [u8]> {
-        let rest = self.rest?;
-        match rest.iter().position(|b| *b == b' ') {
-            Some(end) => {
-                self.rest = Some(&rest[end + 1..]);
-                Some(&rest[..end])
-            }
-            None => {
-                self.rest = None;
-                Some(rest)
-            }
-        }
+    #[tactic(auto, using(text_words::proofs::WordLaws::behind_word))]
+    pub fn word(&mut self) -> Option<&'a [u8]>
+        ensures left { MatchOption result ((self.old.left ≡ 0) × (self.new.left ≡ 0)) (λ _. self.old.left ≡ self.new.left + 1) }
+        ensures word { IfSome result (λ word. (word.now ≡ word_of 0 self.old.rest.now) × (self.new.rest.now ≡ rest_of 1 self.old.rest.now)) }
+    {
+        self.left = self.left.checked_sub(1)?;
+        let rest = self.rest;
+        let word = text_words::word(rest, 0);
+        self.rest = part(rest, word.len() + 1, rest.len());
+        Some(word)
     }
 
     // The bytes that a memory lent to a call holds before it.
@@ -63,7 +70,9 @@ impl<'a> Words<'a> {
     }
 
     // The end of the line.
-    pub fn end(&self) -> Option<()> {
-        self.rest.is_none().then_some(())
+    pub fn end(&self) -> Option<()>
+        ensures { IsSome result ↔ self.now.left ≡ 0 }
+    {
+        (self.left == 0).then_some(())
     }
 }

@@ -1,5 +1,5 @@
 -- The words of a line as the parts between its spaces. Assumes nothing.
-use Rattle.std.proofs.Common.{◌≡◌, ℕ, zero, suc, ◌+◌, Bor, Option, None, Some, Bool, true, false, cond, List, [], ◌∷◌, length, take, drop, get_or, eqb, not, refl, sym, ap, ◌∙◌, arith}
+use Rattle.std.proofs.Common.{◌≡◌, ℕ, zero, suc, ◌+◌, ◌-◌, Bor, Option, None, Some, Bool, true, false, cond, List, [], ◌∷◌, length, take, drop, get_or, eqb, not, refl, sym, ap, ◌∙◌, arith}
 use Rattle.std.specs.List.{slice_split, slice_get, onto_first, position, position_or_len}
 use Rattle.std.specs.Option.{option_map, unwrap_or}
 use Rattle.std.proofs.lemmas.Bool.Decides.{nat_tests}
@@ -7,6 +7,7 @@ use Rattle.std.proofs.lemmas.List.Sums.{prefix_len-le-length}
 use Rattle.std.proofs.lemmas.Option.{unwrap_or-slice_get}
 use Rattle.std.proofs.lemmas.List.Splits.{length-slice_split}
 use Rattle.std.proofs.lemmas.List.Sums.{sum_by-cons}
+use Rattle.std.proofs.lemmas.List.{take_rest}
 use Rattle.text_words.specs.Words.{before, after, rest_of, word_of, word_count}
 
 -- the parts of a line between its spaces
@@ -83,3 +84,17 @@ pub take_before : (b : ℕ) (s : List ℕ) → take (length (before b s)) s ≡ 
 unfolding before
 take_before b [] = refl
 take_before b (c ∷ r) = take_by b c r (take_before b r) (eqb c b)
+
+-- what stands behind the first word of a line and the space after it
+pub behind_word : (s w : List ℕ) → w ≡ word_of 0 s → take (length s - (length w + 1)) (drop (length w + 1) s) ≡ rest_of 1 s
+unfolding word_of rest_of after
+behind_word s w e =
+    let q : w ≡ before 32 s = e in
+    let p : length w + 1 ≡ suc (length (before 32 s)) = omega (arith, ap (λ (l : List ℕ). length l) q) in
+    take_rest s (length w + 1) ∙ ap (λ (n : ℕ). drop n s) p
+
+-- the words taken one after the other, each from what the one before it left, are the words of the line
+pub next_word : (k : ℕ) (s : List ℕ) → (word_of 0 (rest_of k s) ≡ word_of k s) × (rest_of 1 (rest_of k s) ≡ rest_of (suc k) s)
+unfolding word_of rest_of
+next_word zero s = (refl, refl)
+next_word (suc k) s = next_word k (after 32 s)
