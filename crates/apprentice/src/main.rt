@@ -4,6 +4,7 @@
 
 use saes_spec::States;
 use std::io::{self, Read};
+use streams::Hex;
 
 fn show(rt: &impl Print, key: u16, block: u16) -> io::Result<()> {
     let States {
@@ -11,7 +12,8 @@ fn show(rt: &impl Print, key: u16, block: u16) -> io::Result<()> {
         second,
         third,
     } = saes::encrypt(key, block);
-    println!(rt; "{first:04x}\n{second:04x}\n{third:04x}")
+    let [first, second, third] = [first, second, third].map(|state| state.to_be_bytes());
+    println!(rt; "{}\n{}\n{}", Hex(&first), Hex(&second), Hex(&third))
 }
 
 // What could not be read is short, as an input is that ends.

@@ -22,10 +22,12 @@ trait System: Files<File = File> + Env + Print + Eprint + AllocGlobal {}
 impl System for HostRuntime {}
 
 // The bytes that the lines may take which wait to be written, and from how many on they are written. A line has at most 63 bytes: three
-// numbers of up to 20 digits, two spaces, a line feed.
+// numbers of up to 20 digits, two spaces, a line feed. So each line has room.
 const ROOM: usize = 8192;
 
 const FULL: usize = 8128;
+
+const LINE: usize = 63;
 
 // How a listing came to its last line.
 #[derive(Clone, Copy, Debug, PartialEq, Eq)]
@@ -36,21 +38,14 @@ enum End {
 
 // How far the listing has come, and the lines that wait.
 #[derive(Drop)]
-struct Listing {
+struct Listing<'a> {
     reader: Reader,
-    lines: Lines,
+    lines: &'a mut Lines<ROOM, LINE>,
 }
 
-impl Listing {
-    fn new(rt: &impl System, reader: Reader) -> Result<Listing, Told> {
-        match Lines::with_capacity(rt.alloc(), ROOM) {
-            Ok(lines) => Ok(Listing { reader, lines }),
-            Err(_) => Err(no_memory(rt)),
-        }
-    }
-
+impl Listing<'_> {
     fn put(&mut self, rt: &impl System, row: Row) -> Result<(), Told> {
-        self.lines.put(row).map_err(|_| no_memory(rt))
+        self.lines.put(row).map_err(|_| no_room(rt))
     }
 
     // A program has no exit status, so after a failed write nothing more is written: a listing without its last line is cut.
@@ -138,10 +133,8 @@ impl Listing {
     }
 }
 
-fn no_memory(rt: &impl System) -> Told {
-    let _ = eprintln!(rt;
-        "dock: there is no memory for the listing: end other programs and start again"
-    );
+fn no_room(rt: &impl System) -> Told {
+    let _ = eprintln!(rt; "dock: a line of the listing has no room: report this");
     Told
 }
 
@@ -150,7 +143,14 @@ fn list<R: Read>(rt: &impl System, keys: &[u8], image: &mut R) -> Result<bool, T
     let (encryption, check) = keys.split_at(keys.len().min(16));
     let started = image_reader::read_start(encryption, check);
     match started.answer {
-        KeyAnswer::Taken => Listing::new(rt, started.reader)?.is_whole(rt, image),
+        KeyAnswer::Taken => {
+            let mut lines = Lines::new();
+            let mut listing = Listing {
+                reader: started.reader,
+                lines: &mut lines,
+            };
+            listing.is_whole(rt, image)
+        }
         KeyAnswer::KeyLength => {
             let _ = println!(rt; "keys 1");
             Ok(false)

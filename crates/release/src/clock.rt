@@ -1,4 +1,5 @@
 // A line of progress on the terminal, where `dock` lends it one and the work takes longer than a second.
+use arrayvec::ArrayString;
 use std::fmt::{self, Display, Formatter};
 use std::fs::File;
 use std::io::Write;
@@ -85,8 +86,8 @@ impl Clock {
         }
     }
 
-    /// Shows that so many blocks are done. Without memory for the line there is none.
-    pub fn tick(&mut self, rt: &(impl time::Clock + AllocGlobal), blocks: u64) {
+    /// Shows that so many blocks are done. A line has less than 160 bytes: three numbers of up to 20 digits, and words.
+    pub fn tick(&mut self, rt: &impl time::Clock, blocks: u64) {
         let Some(terminal) = &self.terminal else {
             return;
         };
@@ -99,7 +100,8 @@ impl Clock {
             total: self.total,
             seconds_left: self.seconds_left(blocks, time),
         };
-        if let Ok(text) = format!(in rt.alloc(); "{line}") {
+        let mut text = ArrayString::<160>::new();
+        if fmt::Write::write(&mut text, line).is_ok() {
             write_to(terminal, text.as_bytes());
         }
         self.shown = Some(time);

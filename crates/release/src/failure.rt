@@ -11,7 +11,7 @@ pub enum Failure {
     Edition,
     NoEdition,
     Place,
-    Memory,
+    Room,
     OpenKeys,
     OpenInput,
     OpenTemporary,
@@ -55,7 +55,7 @@ impl Failure {
             Failure::Place => {
                 "the place is not a number below 4,294,967,296: give it in decimal digits"
             }
-            Failure::Memory => "there is no memory left: end other programs and start again",
+            Failure::Room => "a row has no room: report this",
             Failure::OpenKeys => "the key file cannot be opened, check its permissions",
             Failure::OpenInput => "the input cannot be opened, check its permissions",
             Failure::OpenTemporary => {

@@ -5,6 +5,7 @@ use image_layout::Head;
 use image_reader_tally::Stop;
 use image_reasons::Reason;
 use std::fmt::{self, Display, Formatter};
+use streams::Hex;
 
 /// A block at its place, its header, its bytes, and its payload where a reader accepts it. Where there are keys, `stop` says how a reader
 /// stops at it.
@@ -155,18 +156,6 @@ impl Show for Missing {
 }
 
 // ---- values
-
-#[derive(Clone, Copy)]
-struct Hex<'a>(&'a [u8]);
-
-impl Display for Hex<'_> {
-    fn fmt<W: fmt::Write>(&self, f: &mut Formatter<W>) -> fmt::Result {
-        for byte in self.0 {
-            write!(f, "{byte:02x}")?;
-        }
-        Ok(())
-    }
-}
 
 // A number of JSON, or null.
 #[derive(Clone, Copy)]

@@ -3,6 +3,7 @@ ghost use Rattle.std.specs.Prelude.{◌≤◌, IfOk, length};
 
 use crate::failure::Failure;
 use crate::system::System;
+use arrayvec::ArrayVec;
 use image_reader::Reader;
 use std::env::Env;
 use std::fs::File;
@@ -69,15 +70,15 @@ pub fn fill(rt: &impl System, mut file: &File, part: &mut [u8]) -> Result<usize,
 /// The file of two keys of equal size.
 #[derive(Drop)]
 pub struct Keys {
-    bytes: Vec<u8>,
+    bytes: ArrayVec<u8, 65>,
 }
 
 impl Keys {
     /// Reads one byte more than two keys have, so that a longer file is known from them.
     pub fn read(rt: &impl System) -> Result<Keys, Told> {
         let file = streams::opened(rt, KEYS, Failure::OpenKeys)?;
-        let mut bytes = vec![in rt.alloc(); 0u8; 65].map_err(|_| Failure::Memory.tell(rt))?;
-        let size = fill(rt, &file, &mut bytes)?;
+        let mut bytes = ArrayVec::from([0u8; 65]);
+        let size = fill(rt, &file, bytes.as_mut_slice())?;
         bytes.truncate(size);
         match size {
             32 | 48 | 64 => Ok(Keys { bytes }),

@@ -2,7 +2,7 @@
 use crate::clock::Clock;
 use crate::form::Form;
 use crate::input::Keys;
-use crate::output::Output;
+use crate::output::{Output, Waiting};
 use crate::rows::Row;
 use crate::system::System;
 use crate::{input, lent};
@@ -26,7 +26,7 @@ enum End {
 struct Listing<'a> {
     from: &'a File,
     reader: Reader,
-    output: Output,
+    output: Output<'a>,
 }
 
 impl Listing<'_> {
@@ -108,7 +108,8 @@ pub fn list_image(rt: &impl System) -> Result<(), Told> {
     let terminal = lent::terminal(rt);
     let reader = Keys::read(rt)?.reader();
     let file = input::open(rt)?;
-    let output = Output::new(rt, Form::given(rt, FORM))?;
+    let mut lines = Waiting::new();
+    let output = Output::new(Form::given(rt, FORM), &mut lines);
     let mut listing = Listing {
         from: &file,
         reader,

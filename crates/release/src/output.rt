@@ -10,25 +10,27 @@ const ROOM: usize = 8192;
 
 const FULL: usize = 5632;
 
+const LINE: usize = 2560;
+
+/// The memory of the lines that wait. Whoever writes rows lends it to an output.
+pub type Waiting = Lines<ROOM, LINE>;
+
 #[derive(Drop)]
-pub struct Output {
+pub struct Output<'a> {
     form: Form,
-    lines: Lines,
+    lines: &'a mut Waiting,
 }
 
-impl Output {
-    pub fn new(rt: &impl System, form: Form) -> Result<Output, Told> {
-        match Lines::with_capacity(rt.alloc(), ROOM) {
-            Ok(lines) => Ok(Output { form, lines }),
-            Err(_) => Err(Failure::Memory.tell(rt)),
-        }
+impl<'a> Output<'a> {
+    pub fn new(form: Form, lines: &'a mut Waiting) -> Output<'a> {
+        Output { form, lines }
     }
 
     pub fn put<T: Show>(&mut self, rt: &impl System, what: T) -> Result<(), Told> {
         let form = self.form;
         self.lines
             .put(Shown { form, what })
-            .map_err(|_| Failure::Memory.tell(rt))
+            .map_err(|_| Failure::Room.tell(rt))
     }
 
     /// Whether little room is left.

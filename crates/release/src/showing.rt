@@ -7,7 +7,7 @@ use crate::failure::Failure;
 use crate::form::Form;
 use crate::heads::{Missing, Seen};
 use crate::input::Keys;
-use crate::output::Output;
+use crate::output::{Output, Waiting};
 use crate::system::System;
 use crate::{card, input, lent};
 use image_reader::Reader;
@@ -51,7 +51,7 @@ struct Showing<'a> {
     place: usize,
     last: [u8; 16],
     right: bool,
-    output: Output,
+    output: Output<'a>,
 }
 
 impl Showing<'_> {
@@ -233,7 +233,8 @@ fn is_shown(rt: &impl System) -> Result<bool, Told> {
     let terminal = lent::terminal(rt);
     let reader = reader(rt)?;
     let file = input::open(rt)?;
-    let output = Output::new(rt, Form::given(rt, FORM))?;
+    let mut lines = Waiting::new();
+    let output = Output::new(Form::given(rt, FORM), &mut lines);
     let size = input::size_of(&file);
     let mut showing = Showing {
         from: &file,

@@ -10,9 +10,9 @@ mod rows;
 
 use aesavs_record::Refused;
 use line::LineSoFar;
-use records::Records;
-use std::alloc::AllocError;
+use records::{Records, Waiting};
 use std::env::Env;
+use std::fmt;
 use std::fs::File;
 use std::io::Read;
 use std::rt::Files;
@@ -23,12 +23,12 @@ trait System: Files<File = File> + Env + Print + Eprint + AllocGlobal {}
 
 impl System for HostRuntime {}
 
-// Why a replay ends before its input does: a line is refused, or a read or a write failed, which was told, or there is no memory.
+// Why a replay ends before its input does: a line is refused, or a read or a write failed, which was told, or an answer has no room.
 #[derive(Clone, Copy, Debug, PartialEq, Eq)]
 enum Stop {
     Refused(Refused),
     Told,
-    NoMemory,
+    NoRoom,
 }
 
 impl From<Refused> for Stop {
@@ -43,24 +43,24 @@ impl From<Told> for Stop {
     }
 }
 
-impl From<AllocError> for Stop {
-    fn from(_e: AllocError) -> Stop {
-        Stop::NoMemory
+impl From<fmt::Error> for Stop {
+    fn from(_e: fmt::Error) -> Stop {
+        Stop::NoRoom
     }
 }
 
 #[derive(Drop)]
-struct Replay {
+struct Replay<'a> {
     line: LineSoFar,
-    records: Records,
+    records: Records<'a>,
 }
 
-impl Replay {
-    fn new(rt: &impl System) -> Result<Replay, AllocError> {
-        Ok(Replay {
+impl<'a> Replay<'a> {
+    fn new(lines: &'a mut Waiting) -> Replay<'a> {
+        Replay {
             line: LineSoFar::new(),
-            records: Records::new(rt.alloc())?,
-        })
+            records: Records::new(lines),
+        }
     }
 
     // Takes the lines that come whole with a part of the input.
@@ -135,7 +135,8 @@ impl Replay {
 
 // Standard input has the run and then the file.
 fn replay_input<R: Read>(rt: &impl System, input: &mut R) -> Result<(), Stop> {
-    Replay::new(rt)?.run(rt, input, Ok(()))
+    let mut lines = Waiting::new();
+    Replay::new(&mut lines).run(rt, input, Ok(()))
 }
 
 // `dock` gives the run as the first word and the file's name as the second, and waits for the word that every record agreed.
@@ -145,7 +146,8 @@ fn replay_file(rt: &impl System) -> Result<(), Stop> {
         2,
         "dock: the file cannot be opened, check its permissions",
     )?;
-    let mut replay = Replay::new(rt)?;
+    let mut lines = Waiting::new();
+    let mut replay = Replay::new(&mut lines);
     let opened = replay.open(rt);
     let ended = replay.run(rt, &mut input, opened);
     match ended {
@@ -170,9 +172,7 @@ fn main(rt: HostRuntime) {
     } else {
         replay_input(&rt, &mut rt.stdin())
     };
-    if ended == Err(Stop::NoMemory) {
-        let _ = eprintln!(&rt;
-            "dock: there is no memory for the replay: end other programs and start again"
-        );
+    if ended == Err(Stop::NoRoom) {
+        let _ = eprintln!(&rt; "dock: an answer of the replay has no room: report this");
     }
 }

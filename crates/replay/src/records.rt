@@ -5,15 +5,19 @@ use crate::{Stop, System};
 use aesavs_line::{Field, Line, Run, read_line, strip, value};
 use aesavs_monte::Link;
 use aesavs_record::{Record, Refused, Section, Standing, role_of};
-use std::alloc::{AllocError, Global};
-use std::io;
+use std::{fmt, io};
 use streams::{Lines, Told};
 
-// Room for the answers that wait, asked for before anything is read.
+// Room for the answers of a part of the input, and for one: a number of up to 20 digits, a space, a word of up to ten letters, a line feed.
 const ROOM: usize = 8192;
 
+const LINE: usize = 32;
+
+/// The memory of the answers that wait.
+pub type Waiting = Lines<ROOM, LINE>;
+
 #[derive(Drop)]
-pub struct Records {
+pub struct Records<'a> {
     standing: Standing,
     // What the next record of the chain starts from.
     own: Link,
@@ -22,12 +26,12 @@ pub struct Records {
     fields: Fields,
     output: [u8; 2048],
     // The answers that wait.
-    lines: Lines,
+    lines: &'a mut Waiting,
 }
 
-impl Records {
-    pub fn new(alloc: Global) -> Result<Records, AllocError> {
-        Ok(Records {
+impl<'a> Records<'a> {
+    pub fn new(lines: &'a mut Waiting) -> Records<'a> {
+        Records {
             standing: Standing::start(),
             own: Link {
                 key: [0; 32],
@@ -38,8 +42,8 @@ impl Records {
             agree: None,
             fields: Fields::new(),
             output: [0; 2048],
-            lines: Lines::with_capacity(alloc, ROOM)?,
-        })
+            lines,
+        }
     }
 
     // There was a record, and every one agreed.
@@ -75,7 +79,7 @@ impl Records {
     }
 
     // The section is as it was before this record, which is its first one if the section has no kind yet.
-    fn answer(&mut self, section: Section, record: &Record) -> Result<(), AllocError> {
+    fn answer(&mut self, section: Section, record: &Record) -> fmt::Result {
         let verdict = match self.standing.run {
             Run::Known => self.known_answer(section, record),
             Run::Monte => self.monte_carlo(section, record),
@@ -115,7 +119,7 @@ impl Records {
     }
 
     // The last answer.
-    pub fn refuse(&mut self, refused: Refused) -> Result<(), AllocError> {
+    pub fn refuse(&mut self, refused: Refused) -> fmt::Result {
         self.lines.put(Row::Refusal { line: refused.line })
     }
 

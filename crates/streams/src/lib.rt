@@ -1,12 +1,14 @@
 // What a program reads and writes, and what it tells on standard error where that fails.
 #![tactic(auto)]
 
+mod hex;
 mod lines;
 
 ghost use Rattle.std.specs.Prelude.{◌≡◌, ◌≤◌, ◌<◌, IfOk, OnOk, length, take};
 ghost use Rattle.std.specs.Io.{ReadsAtMost};
 ghost use Rattle.std.specs.Io.KnownBytes.{Appends, Consumes, IsAtEnd, ReadConsumes};
 
+pub use hex::Hex;
 pub use lines::Lines;
 use std::env::{Env, FillError};
 use std::fmt::Display;
@@ -186,6 +188,31 @@ mod tests {
         assert!(rt; is_writable("pos:\t0\nflags:\t02001\nmnt_id:\t15\n"));
         assert!(rt; !is_writable("pos:\t0\nflags:\t0100000\nmnt_id:\t15\n"));
         assert!(rt; !is_writable(""));
+    }
+
+    #[test]
+    fn puts_lines_that_have_room(rt: HostRuntime) {
+        let mut lines = Lines::<8, 5>::new();
+        assert!(rt; lines.put("one\n").is_ok());
+        assert!(rt; lines.put("longer").is_err());
+        assert!(rt; lines.put("four\n").is_err());
+        assert_eq!(rt; lines.text.as_str(), "one\n");
+        assert!(rt; lines.put("two\n").is_ok());
+        assert_eq!(rt; lines.text.as_str(), "one\ntwo\n");
+        lines.clear();
+        assert_eq!(rt; lines.len(), 0);
+    }
+
+    #[test]
+    fn shows_bytes_as_digits(rt: HostRuntime) {
+        let mut lines = Lines::<80, 80>::new();
+        assert!(rt; lines.put(Hex(&[])).is_ok());
+        assert_eq!(rt; lines.len(), 0);
+        assert!(rt; lines.put(Hex(&[0x0a, 0xf0])).is_ok());
+        assert_eq!(rt; lines.text.as_str(), "0af0");
+        assert!(rt; lines.put(Hex(&[7; 33])).is_ok());
+        assert_eq!(rt; lines.len(), 70);
+        assert!(rt; lines.text.as_str().ends_with("070707"));
     }
 
     #[test]
