@@ -93,8 +93,9 @@ impl Showing<'_> {
         if input::fill(rt, self.from, &mut lent[..n])? < n {
             return Err(Failure::Changed.tell(rt));
         }
-        for block in lent[..n].chunks_exact(512) {
-            self.show_block(rt, block)?;
+        let lent = &lent[..n];
+        for j in 0..image_view::blocks(lent) {
+            self.show_block(rt, image_view::block_part(lent, j))?;
         }
         Ok(())
     }
