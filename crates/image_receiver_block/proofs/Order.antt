@@ -3,6 +3,9 @@ use mathlib.Core.Path.{◌≡◌, refl, sym, ap, ◌∙◌}
 use mathlib.Core.Bool.{Bool, true, false, ◌&&◌, not, cond}
 use mathlib.Core.List.{List, [], ◌++◌}
 use Prim.Native.Nat.{ℕ}
+use Rattle.std.specs.Bool.{then_some}
+use Rattle.std.specs.Option.{option_or}
+use Rattle.std.specs.Prelude.{Option, unwrap_or}
 use borrow.Author.Tests.{eq-eqb, ne_eqb}
 use lib.ListN.{length}
 use Rattle.octets.specs.Blocks.{BlockCipher}
@@ -20,20 +23,18 @@ use Rattle.image_receiver_answer.proofs.Order.{hit, miss, sooner, Refuses, heade
 use Rattle.image_receiver_block.specs.Receive.{last_tests, receive_answer, last_answer, counted_with, stored, answered_with, leaves, received_under}
 use Rattle.image_receiver_block.specs.declared.BlockReceived.{BlockReceived}
 
--- the last two tests, in their order
-module _ (ek : BlockCipher) (b map : List ℕ) where
-  pub last_15 : fill_zero ek b ≡ false → Because FillNotZero ≡ last_answer ek b map
+-- the last two tests, each made first
+module _ (ek : BlockCipher) (b map : List ℕ) (filled held : Bool) (ef : filled ≡ fill_zero ek b) (eh : held ≡ bit_at map (head_of_lem b).number) where
+  pub last_by : (x y z : Option ReceiveAnswer) (a : ReceiveAnswer) → x ≡ then_some (not filled) (Because FillNotZero) → y ≡ then_some held AlreadyHeld → z ≡ option_or x y → a ≡ unwrap_or z Received → a ≡ last_answer ek b map
   unfolding last_answer first_told
-  last_15 e = rw e
-
-  module _ (e : fill_zero ek b ≡ true) where
-    pub last_21 : bit_at map (head_of_lem b).number ≡ true → AlreadyHeld ≡ last_answer ek b map
-    unfolding last_answer first_told
-    last_21 f = rw (e, f)
-
-    pub last_passed : bit_at map (head_of_lem b).number ≡ false → Received ≡ last_answer ek b map
-    unfolding last_answer first_told
-    last_passed f = rw (e, f)
+  last_by x y z a ex ey ez ea = rw (ea, ez, ex, ey, ← ef, ← eh) (go filled held)
+    where
+      go : (f h : Bool) → unwrap_or (option_or (then_some (not f) (Because FillNotZero)) (then_some h AlreadyHeld)) Received
+          ≡ cond (not f) (Because FillNotZero) (cond h AlreadyHeld Received)
+      go true true = refl
+      go true false = refl
+      go false true = refl
+      go false false = refl
 
 -- what the code hands back, where the last answer refuses and where it accepts
 module _ (ek : BlockCipher) (r : Receipt) (b store map : List ℕ) (a last : ReceiveAnswer) (ea : a ≡ last) where

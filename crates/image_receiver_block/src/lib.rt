@@ -85,17 +85,19 @@ fn keep(
 {
     let mut dec = KeySchedule::none();
     inverse_into(enc, &mut dec);
-    if !fill_is_zero(enc, &dec, block, head.len as usize) {
-        return answered(ReceiveAnswer::Because(Reason::FillNotZero), receipt);
-    }
     let number = head.number as usize;
-    if has_bit(map, number) {
-        return answered(ReceiveAnswer::AlreadyHeld, receipt);
-    }
+    let filled = fill_is_zero(enc, &dec, block, head.len as usize);
+    let held = has_bit(map, number);
+    let fifteen = (!filled).then_some(ReceiveAnswer::Because(Reason::FillNotZero));
+    let twenty_one = held.then_some(ReceiveAnswer::AlreadyHeld);
+    let answer = fifteen.or(twenty_one).unwrap_or(ReceiveAnswer::Received);
+    let ReceiveAnswer::Received = answer else {
+        return answered(answer, receipt);
+    };
     let at = number * 480;
     open_block(enc, &dec, block, &mut store[at..at + 480]);
     set_bit(map, number);
-    answered(ReceiveAnswer::Received, counted(receipt, head.len))
+    answered(answer, counted(receipt, head.len))
 }
 
 // One block more is held, and its payload is counted. A sum that 32 bits cannot hold stays at the largest.
