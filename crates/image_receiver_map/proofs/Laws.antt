@@ -12,6 +12,7 @@ use lib.Dec.{T, eqb, ltb, eqb→eq, ltb→lt}
 use lib.ListN.{length, get_or, set, drop, replicate, length-replicate, get_or-replicate, get_or-append, get_or-eq_default}
 use lib.Seq.{get_or-set_same, get_or-set_other, set_out}
 use Rattle.octets.specs.Octets.{Bytes}
+use Rattle.octets.proofs.Arms.{NoneFrom}
 use Rattle.octets.proofs.Tests.{all, below}
 use Rattle.image_receiver_map.specs.Map.{map_size, worth, bit_of, with_bit, bit, bit_at, bit_put, cleared, bits_below}
 
@@ -163,6 +164,25 @@ pub bits_none : (m : List ℕ) (c k : ℕ) → k ≤ c → map_size c ≤ length
 unfolding bits_below
 bits_none m c zero l h = refl
 bits_none m c (suc k) l h = omega (arith, bits_none m c k (omega arith) h, none m c k (omega arith) h)
+
+-- ---- from bit 7 on a bit is worth 128
+
+pub worth_high : (k : ℕ) → 7 ≤ k → worth k ≡ 128
+worth_high zero h = absurd (omega arith)
+worth_high (suc zero) h = absurd (omega arith)
+worth_high (suc (suc zero)) h = absurd (omega arith)
+worth_high (suc (suc (suc zero))) h = absurd (omega arith)
+worth_high (suc (suc (suc (suc zero)))) h = absurd (omega arith)
+worth_high (suc (suc (suc (suc (suc zero))))) h = absurd (omega arith)
+worth_high (suc (suc (suc (suc (suc (suc zero)))))) h = absurd (omega arith)
+worth_high (suc (suc (suc (suc (suc (suc (suc k))))))) h = refl
+
+past : (k x : ℕ) → NoneFrom 0 k x → k ≤ x
+past zero x h = omega arith
+past (suc k) x h = omega (arith, past k x h.0, h.1)
+
+pub worth_last : (k : ℕ) → NoneFrom 0 7 k → worth k ≡ 128
+worth_last k h = worth_high k (past 7 k h)
 
 -- ---- for the code: a bit is looked at and set by a byte that has it alone
 
