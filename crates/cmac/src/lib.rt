@@ -47,23 +47,22 @@ pub fn check(key: &[u8], message: &[u8]) -> Checked
 pub fn start(key: &[u8]) -> Started
     ensures { result ≡ calls.start_of key.now }
 {
-    let made = KeySchedule::new(key);
+    let mut schedule = KeySchedule::none();
+    let answer = schedule.expand(key);
     let record = Record {
-        schedule: made.schedule,
+        schedule,
         run: Run::new(),
     };
-    Started {
-        answer: made.answer,
-        record,
-    }
+    Started { answer, record }
 }
 
 // The record after one more part.
-pub fn fed_with(record: Record, part: &[u8]) -> Record
+pub fn fed_with(mut record: Record, part: &[u8]) -> Record
     ensures { result ≡ calls.fed_with «record» part.now }
 {
     let run = record.run.fed(&record.schedule, part);
-    Record { run, ..record }
+    record.run = run;
+    record
 }
 
 // The check of everything fed so far. The record does not change and can be fed more.
