@@ -4,7 +4,7 @@ use crate::form::Show;
 use image_layout::Head;
 use image_reader_tally::Stop;
 use image_reasons::Reason;
-use std::fmt::{self, Display, Formatter};
+use std::fmt::{self, Formatter};
 use streams::Hex;
 
 /// A block at its place, its header, its bytes, and its payload where a reader accepts it. Where there are keys, `stop` says how a reader
@@ -73,20 +73,20 @@ impl Show for Seen<'_> {
             "block {place} number {number} count {count} release {release} length {len} edition "
         )?;
         match reserved {
-            0 => write!(f, "1")?,
-            2 => write!(f, "2")?,
+            0 => f.write_str("1")?,
+            2 => f.write_str("2")?,
             mark => write!(f, "unknown mark {mark}")?,
         }
         match self.stop {
             None => {}
-            Some(Stop::End) => write!(f, " check right")?,
-            Some(Stop::At(_, Reason::CheckWrong)) => write!(f, " check wrong")?,
+            Some(Stop::End) => f.write_str(" check right")?,
+            Some(Stop::At(_, Reason::CheckWrong)) => f.write_str(" check wrong")?,
             Some(stop) => {
                 let refusal = stop.number();
                 write!(f, " check right refusal {refusal}")?;
             }
         }
-        writeln!(f)?;
+        f.write_str("\n")?;
         if self.alone {
             self.words_alone(f)?;
         }
@@ -102,24 +102,26 @@ impl Show for Seen<'_> {
             reserved,
         } = self.head;
         let place = self.place;
-        let edition = OrNull(match reserved {
-            0 => Some(1),
-            2 => Some(2),
-            _ => None,
-        });
-        let refusal = OrNull(self.stop.map(|stop| stop.number()));
         write!(
             f,
             "{{\"block\":{place},\"number\":{number},\"count\":{count},\"release\":{release},\"length\":{len}"
         )?;
-        write!(
-            f,
-            ",\"edition\":{edition},\"mark\":{reserved},\"refusal\":{refusal}"
-        )?;
+        f.write_str(match reserved {
+            0 => ",\"edition\":1,\"mark\":",
+            2 => ",\"edition\":2,\"mark\":",
+            _ => ",\"edition\":null,\"mark\":",
+        })?;
+        match self.stop {
+            None => write!(f, "{reserved},\"refusal\":null")?,
+            Some(stop) => {
+                let refusal = stop.number();
+                write!(f, "{reserved},\"refusal\":{refusal}")?;
+            }
+        }
         if self.alone {
             self.json_alone(f)?;
         }
-        writeln!(f, "}}")
+        f.write_str("}\n")
     }
 }
 
@@ -152,20 +154,5 @@ impl Show for Missing {
         write!(f, "{{\"block\":{place},\"number\":null,\"count\":null")?;
         write!(f, ",\"release\":null,\"length\":null,\"edition\":null")?;
         writeln!(f, ",\"mark\":null,\"refusal\":{refusal}}}")
-    }
-}
-
-// ---- values
-
-// A number of JSON, or null.
-#[derive(Clone, Copy)]
-struct OrNull(Option<u32>);
-
-impl Display for OrNull {
-    fn fmt<W: fmt::Write>(&self, f: &mut Formatter<W>) -> fmt::Result {
-        match self.0 {
-            Some(number) => write!(f, "{number}"),
-            None => write!(f, "null"),
-        }
     }
 }
