@@ -2,6 +2,7 @@
 #![tactic(auto)]
 
 ghost use Rattle.std.specs.Prelude.{◌≡◌, ◌+◌, ◌%◌, ◌≤◌, length};
+ghost use Rattle.std.proofs.Math.Seq.{paste};
 ghost use Rattle.octets.specs.Octets.{pad_to, over};
 ghost use Rattle.aes_spec.specs.Cipher.{standard};
 ghost use Rattle.aes_spec.specs.Model.{one_way};
@@ -51,8 +52,19 @@ fn wrap_into(schedule: &KeySchedule, given: &[u8], output: &mut [u8])
     ensures { output.new ≡ over (wrapped (standard schedule.now.words schedule.now.rounds) given.now) output.old }
 {
     copy(&INITIAL_VALUE, output, 0);
-    copy(given, output, 8);
+    put_data(given, output);
     passes(schedule, &mut output[..given.len() + 8]);
+}
+
+// Puts key data behind the initial value. Byte by byte: between two slices that a caller lends, `copy_from_slice` is a call of `memmove`,
+// and whoever links the archive for C gives it `memcpy` and `memset` alone.
+fn put_data(given: &[u8], output: &mut [u8])
+    requires { 8 + length given.now ≤ length output.old }
+    ensures { output.new ≡ paste output.old 8 given.now (length given.now) }
+{
+    for k in 0..given.len() {
+        output[8 + k] = given[k];
+    }
 }
 
 // Works in memory of its own: nothing of a wrapped key whose check is wrong reaches the output.
