@@ -49,3 +49,16 @@ no_longer line s memory h = by s (leb (len_of line + length s) (length memory)) 
 pub no_longer_keeps : (line : Result ℕ TooLong) (inp : List ℕ) (at : ℕ) (memory : List ℕ) → len_of (gathered line inp at memory).line ≡ len_of line → copied (line_in inp at) (len_of line) memory ≡ memory
 unfolding gathered
 no_longer_keeps line inp at memory h = no_longer line (line_in inp at) memory h
+
+-- behind the end of the memory nothing is put, so a line that is marked there leaves it as it was, whatever comes
+full : (n : ℕ) (s memory : List ℕ) → length memory ≤ n → copied s n memory ≡ memory
+unfolding copied
+full n [] memory h = by (leb (n + 0) (length memory))
+  where
+    by : (b : Bool) → cond b (paste memory n [] 0) memory ≡ memory
+    by true = sym (paste-zero memory n [])
+    by false = refl
+full n (x ∷ t) memory h = grind (arith, nat_tests)
+
+pub full_keeps : (line : Result ℕ TooLong) (inp : List ℕ) (at : ℕ) (memory : List ℕ) → length memory ≤ len_of line → copied (line_in inp at) (len_of line) memory ≡ memory
+full_keeps line inp at memory h = full (len_of line) (line_in inp at) memory h

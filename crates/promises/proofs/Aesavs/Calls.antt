@@ -1,7 +1,7 @@
 -- Demand 1 for the calls that replay a response file, and what each of their answers says. Assumes nothing.
 use mathlib.Core.Path.{◌≡◌, sym, ap, ◌∙◌}
 use mathlib.Core.Bool.{true, false, not}
-use Prim.Native.Nat.{ℕ, ◌+◌}
+use Prim.Native.Nat.{ℕ, ◌+◌, ◌≤◌}
 use lib.Dec.{leb}
 use lib.ListN.{length}
 use Rattle.octets_slice.specs.Slices.{copied}
@@ -12,7 +12,7 @@ use Rattle.std.specs.Prelude.{Option, Result, Ok, Err}
 use Rattle.text_lines.specs.Gathering.{line_in, len_of, gathered}
 use Rattle.text_lines.specs.declared.Gathered.{Gathered}
 use Rattle.text_lines.specs.declared.TooLong.{TooLong}
-use Rattle.text_lines.proofs.Laws.{too_long_keeps, no_longer_keeps}
+use Rattle.text_lines.proofs.Laws.{too_long_keeps, no_longer_keeps, full_keeps}
 use Rattle.aesavs_record.specs.Records.{between, next_line}
 use Rattle.aesavs_record.specs.declared.Record.{Record}
 use Rattle.aesavs_record.specs.declared.Refused.{Refused}
@@ -70,6 +70,10 @@ gather_too_long_keeps κs a r s n e p o h =
 
 pub gather_no_longer_keeps : (κs : _) (a : _) (r : _) (s : _) → gather.Post κs a r s → len_of r.line ≡ len_of a.0 → s.1.1.1.0.now ≡ a.1.1.1.0.now
 gather_no_longer_keeps κs a r s p e = p.1 ∙ no_longer_keeps a.0 a.1.0.now a.1.1.0 a.1.1.1.0.now (ap (λ (g : Gathered). len_of g.line) (sym p.0) ∙ e)
+
+-- and so does each part that comes to a line which is marked at the end of the memory
+pub gather_full_keeps : (κs : _) (a : _) (r : _) (s : _) → gather.Post κs a r s → length a.1.1.1.0.now ≤ len_of a.0 → s.1.1.1.0.now ≡ a.1.1.1.0.now
+gather_full_keeps κs a r s p h = p.1 ∙ full_keeps a.0 a.1.0.now a.1.1.0 a.1.1.1.0.now h
 
 pub read_line_asks_nothing : (κs : _) (a : _) → read_line.Asked κs a
 read_line_asks_nothing κs a = tt
